@@ -1,0 +1,28 @@
+//! The values, names and small types that every layer speaks of, and the two traits through which pages are read and written.
+//!
+//! Contracts see a `Name` and a `Text` as their bytes, a `Listed` as the list of its items, and the rest as plain records and
+//! enums. Nothing of the repository stands below; every crate stands above. Its one law: what is copied equals what it is a
+//! copy of.
+#![tactic(auto)]
+
+mod answers;
+mod lists;
+mod locks;
+mod memory;
+mod names;
+mod nodes;
+mod refusals;
+mod schemas;
+mod texts;
+mod values;
+
+pub use answers::{Answer, Out, Versions};
+pub use lists::Listed;
+pub use locks::Locks;
+pub use memory::NoMemory;
+pub use names::Name;
+pub use nodes::{Freed, NodeKind, NodeSpec, NodeVersion, Sent, SessionSpec};
+pub use refusals::{Census, FieldCause, Refusal};
+pub use schemas::{Column, IndexKind, Schema};
+pub use texts::Text;
+pub use values::{Kind, Row, Value};

@@ -1,0 +1,12 @@
+//! What a run means: plain tables as lists, the answer and the effect of each statement, and the legal histories of a script.
+//!
+//! Contracts see scripts, replies and tables as plain records of lists. The definitions stand in `specs/`; the functions here
+//! compute them on lists, without pages or indexes, and tests compare the product with them. Below stand `iq_base`, `iq_ast`
+//! and `iq_history`; above stands every crate that promises what a run means.
+#![tactic(auto)]
+
+mod replies;
+mod scripts;
+
+pub use replies::{Reply, Said};
+pub use scripts::{Deed, Line, Script, Step};
