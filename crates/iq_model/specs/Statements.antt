@@ -1,0 +1,232 @@
+-- What the statements on tables mean over plain tables: the first refusal, the answer of a query, the effect of a write.
+use Rattle.std.specs.Prelude.{◌≡◌, ℕ, ℤ, pos, negsuc, ◌+◌, Bool, true, false, List, [], ◌∷◌, ◌++◌, Option, Some, None, nat_lt, nat_le, nat_eq, map, length, if◌then◌else◌, is_none, is_some}
+use Rattle.std.specs.List.{position, slice_get}
+use Rattle.std.specs.Option.{option_or}
+use Rattle.iq_base.specs.declared.names.Name.{Name}
+use Rattle.iq_base.specs.declared.values.Value.{Value}
+use Rattle.iq_base.specs.declared.values.Value.TheVariants as values
+use Rattle.iq_base.specs.declared.values.Kind.{Kind}
+use Rattle.iq_base.specs.declared.values.Kind.TheVariants as kinds
+use Rattle.iq_base.specs.declared.schemas.Column.{Column}
+use Rattle.iq_base.specs.declared.answers.Out.{Out}
+use Rattle.iq_base.specs.declared.answers.Out.TheVariants as outs
+use Rattle.iq_base.specs.declared.refusals.Refusal.{Refusal}
+use Rattle.iq_base.specs.declared.refusals.Refusal.TheVariants as refusals
+use Rattle.iq_base.specs.declared.refusals.FieldCause.{FieldCause}
+use Rattle.iq_base.specs.declared.refusals.FieldCause.TheVariants as causes
+use Rattle.iq_base.specs.Locks.{locks_of, catalog_name}
+use Rattle.iq_ast.specs.declared.statements.Statement.{Statement}
+use Rattle.iq_ast.specs.declared.statements.Statement.TheVariants as statements
+use Rattle.iq_ast.specs.declared.statements.Write.{Write}
+use Rattle.iq_ast.specs.declared.statements.Write.TheVariants as writes
+use Rattle.iq_ast.specs.declared.statements.Select.{Select}
+use Rattle.iq_ast.specs.declared.statements.Item.{Item}
+use Rattle.iq_ast.specs.declared.statements.Item.TheVariants as items
+use Rattle.iq_model.specs.Tables.{Table, Database, content, with_rows, empty_table, same_name, table_of, put_table}
+
+-- A test of a statement: its place in the order of tests, and the refusal that it finds, if any.
+pub record Check : Type 0 where
+  pub order : ℕ
+  pub found : Option Refusal
+
+-- the first refusal that is found
+abbrev pub first_refusal : List Check → Option Refusal
+first_refusal [] = None
+first_refusal (check ∷ checks) = option_or check.found (first_refusal checks)
+
+-- a refusal where a test is true
+abbrev pub found_if : Bool → Refusal → Option Refusal
+found_if true refusal = Some refusal
+found_if false refusal = None
+
+-- TABLES AND COLUMNS
+
+-- the place of a column in its table, if there is one of this name
+abbrev pub column_place : List Column → Name → Option ℕ
+column_place columns name = position (λ (c : Column). same_name c.name name) columns
+
+-- the column that a member of a SELECT's list names, if it names one
+abbrev pub item_column : Item → Option Name
+item_column (items.Plain name) = Some name
+item_column items.CountAll = None
+item_column (items.Count name) = Some name
+item_column (items.Sum name) = Some name
+item_column (items.Min name) = Some name
+item_column (items.Max name) = Some name
+
+-- the refusal of a name that is no column
+abbrev pub no_column : List Column → Option Name → Option Refusal
+no_column columns None = None
+no_column columns (Some name) = found_if (is_none (column_place columns name)) (refusals.NoColumn name)
+
+-- the first member, in text order, that names no column
+abbrev pub first_no_column : List Column → List Item → Option Refusal
+first_no_column columns [] = None
+first_no_column columns (item ∷ rest) = option_or (no_column columns (item_column item)) (first_no_column columns rest)
+
+-- ROWS OF AN INSERT
+
+-- whether a whole number fits 32 bits with a sign
+abbrev pub fits_int : ℤ → Bool
+fits_int (pos n) = nat_lt n 2147483648
+fits_int (negsuc n) = nat_lt n 2147483648
+
+-- what is wrong with a number in a column of this kind
+abbrev pub number_cause : Kind → ℤ → Option FieldCause
+number_cause kinds.Int z = if fits_int z then None else Some causes.Range
+number_cause kinds.Big z = None
+number_cause (kinds.Varchar most) z = Some causes.NotText
+
+-- what is wrong with a text in a column of this kind
+abbrev pub text_cause : Kind → List ℕ → Option FieldCause
+text_cause kinds.Int text = Some causes.NotNumber
+text_cause kinds.Big text = Some causes.NotNumber
+text_cause (kinds.Varchar most) text = if nat_le (length text) most then None else Some causes.TextTooLong
+
+-- what is wrong with a value in a column
+abbrev pub field_cause : Column → Value → Option FieldCause
+field_cause column values.Null = if column.null then None else Some causes.NullRefused
+field_cause column (values.Int z) = number_cause column.kind z
+field_cause column (values.Text text) = text_cause column.kind text
+
+-- the refusal of a value, named by its row and its field
+abbrev pub bad_field : ℕ → ℕ → Option FieldCause → Option Refusal
+bad_field row field None = None
+bad_field row field (Some cause) = Some (refusals.BadRow row field cause)
+
+-- the first bad value of a row, whose fields are counted from this one on
+abbrev pub first_bad_field : ℕ → ℕ → List Column → List Value → Option Refusal
+first_bad_field row field [] fields = None
+first_bad_field row field (column ∷ columns) [] = None
+first_bad_field row field (column ∷ columns) (value ∷ fields) =
+    option_or (bad_field row field (field_cause column value)) (first_bad_field row (field + 1) columns fields)
+
+-- the refusal of a row: a wrong number of fields, else its first bad value
+abbrev pub bad_row : ℕ → List Column → List Value → Option Refusal
+bad_row row columns fields =
+    if nat_eq (length fields) (length columns) then first_bad_field row 1 columns fields else Some (refusals.BadRow row 0 causes.Count)
+
+-- the first bad row, where rows are counted from this one on
+abbrev pub first_bad_row : ℕ → List Column → List (List Value) → Option Refusal
+first_bad_row row columns [] = None
+first_bad_row row columns (fields ∷ rows) = option_or (bad_row row columns fields) (first_bad_row (row + 1) columns rows)
+
+-- REFUSALS
+
+-- how many tables there can be, and how many slots a table can have
+abbrev pub most_tables : ℕ
+most_tables = 64
+
+abbrev pub row_limit : ℕ
+row_limit = 262144
+
+-- the tests of what is named, and of the values, on the table that an INSERT names
+abbrev pub insert_checks : Name → Option Table → List (List Value) → List Check
+insert_checks name None rows = record { order = 5; found = Some (refusals.NoTable name) } ∷ []
+insert_checks name (Some t) rows = record { order = 6; found = first_bad_row 1 t.columns rows } ∷ []
+
+-- the same on the table that a SELECT names
+abbrev pub select_checks : Name → Option Table → List Item → List Check
+select_checks name None items = record { order = 5; found = Some (refusals.NoTable name) } ∷ []
+select_checks name (Some t) items = record { order = 5; found = first_no_column t.columns items } ∷ []
+
+-- the tests of what is named, and of the values, in the order in which they are made
+abbrev pub write_checks : Write → Database → List Check
+write_checks (writes.CreateTable name schema) db =
+    record { order = 5; found = found_if (is_some (table_of name db)) (refusals.TableExists name) }
+    ∷ record { order = 5; found = found_if (nat_le most_tables (length db)) refusals.CatalogFull }
+    ∷ []
+write_checks (writes.Insert name rows) db = insert_checks name (table_of name db) rows
+write_checks _ db = []
+
+abbrev pub statement_checks : Statement → Database → List Check
+statement_checks (statements.Write write) db = write_checks write db
+statement_checks (statements.Select select) db = select_checks select.table (table_of select.table db) select.items
+statement_checks _ db = []
+
+-- the test of a table's room
+abbrev pub room_check : Option Table → ℕ → List Check
+room_check None count = []
+room_check (Some t) count =
+    record { order = 10; found = found_if (nat_lt row_limit (length t.slots + count)) (refusals.TableFull row_limit) } ∷ []
+
+-- the tests that come once the names are locked
+abbrev pub room_checks : Statement → Database → List Check
+room_checks (statements.Write (writes.Insert name rows)) db = room_check (table_of name db) (length rows)
+room_checks _ db = []
+
+-- LOCKS
+
+-- the names that a write locks: the catalog's for the list of tables, and a table's for its rows and indexes
+abbrev pub names_of : Write → List Name
+names_of (writes.CreateTable name schema) = locks_of true None
+names_of (writes.DropTable name) = locks_of true (Some name)
+names_of (writes.CreateIndex name kind table column second) = locks_of false (Some table)
+names_of (writes.DropIndex table name) = locks_of false (Some table)
+names_of (writes.Insert table rows) = locks_of false (Some table)
+names_of (writes.Load table rows text) = locks_of false (Some table)
+names_of (writes.Delete table cond) = locks_of false (Some table)
+names_of (writes.Update table changes cond) = locks_of false (Some table)
+
+-- the name that a write creates beside those that it locks
+abbrev pub created_by : Write → List Name
+created_by (writes.CreateTable name schema) = name ∷ []
+created_by _ = []
+
+-- EFFECT
+
+-- the database with rows put into a table of it
+abbrev pub inserted : Option Table → List (List Value) → Database → Database
+inserted None rows db = db
+inserted (Some t) rows db = put_table (with_rows t rows) db
+
+-- the database that a write leaves, where it is not refused
+abbrev pub effect : Write → Database → Database
+effect (writes.CreateTable name schema) db = put_table (empty_table name schema.columns) db
+effect (writes.Insert name rows) db = inserted (table_of name db) rows db
+effect _ db = db
+
+-- the tables that a statement leaves
+abbrev pub tables_after : Statement → Database → Database
+tables_after (statements.Write write) db = effect write db
+tables_after _ db = db
+
+-- ANSWER
+
+-- a value as it is answered
+abbrev pub out_of : Value → Out
+out_of values.Null = outs.Null
+out_of (values.Int z) = outs.Int z
+out_of (values.Text text) = outs.Text text
+
+-- a place of a row; NULL where there is none
+abbrev pub value_or_null : Option Value → Out
+value_or_null None = outs.Null
+value_or_null (Some value) = out_of value
+
+abbrev pub value_at : Option ℕ → List Value → Out
+value_at None row = outs.Null
+value_at (Some place) row = value_or_null (slice_get row place)
+
+-- the value of a plain member in a row
+abbrev pub item_value : List Column → Item → List Value → Out
+item_value columns (items.Plain name) row = value_at (column_place columns name) row
+item_value columns _ row = outs.Null
+
+-- one row of the answer: each member's value
+abbrev pub projected : List Column → List Item → List Value → List Out
+projected columns members row = map (λ (item : Item). item_value columns item row) members
+
+-- the rows of a query over the rows of a table: one row with their number for COUNT(*), else each row's values
+abbrev pub rows_of : List Column → List Item → List (List Value) → List (List Out)
+rows_of columns (items.CountAll ∷ []) rows = (outs.Int (pos (length rows)) ∷ []) ∷ []
+rows_of columns members rows = map (projected columns members) rows
+
+-- the rows of a query over the table that it names
+abbrev pub rows_at : Option Table → List Item → List (List Out)
+rows_at None members = []
+rows_at (Some t) members = rows_of t.columns members (content t)
+
+-- the rows of a query over a database, where it is not refused
+abbrev pub answer : Select → Database → List (List Out)
+answer select db = rows_at (table_of select.table db) select.items

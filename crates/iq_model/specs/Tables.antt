@@ -1,0 +1,68 @@
+-- Plain tables: lists of rows under names, with no page, code or index.
+use Rattle.std.specs.Prelude.{◌≡◌, ℕ, Bool, true, false, List, [], ◌∷◌, ◌++◌, Option, Some, None, nat_eq, filter, map, find, length, if◌then◌else◌}
+use Rattle.std.specs.Ordering.{nat_cmp}
+use Rattle.std.specs.declared.cmp.Ordering.{Ordering}
+use Rattle.std.specs.declared.cmp.Ordering.TheVariants.{Less, Equal, Greater}
+use Rattle.std.specs.Cmp.Lexicographic.{pointwise, slice_cmp}
+use Rattle.iq_base.specs.declared.names.Name.{Name}
+use Rattle.iq_base.specs.declared.values.Value.{Value}
+use Rattle.iq_base.specs.declared.schemas.Column.{Column}
+
+-- a row that was put into a table, and whether it is still there
+pub record Slot : Type 0 where
+  pub row : List Value
+  pub alive : Bool
+
+-- a table: its columns in order, and its slots by row id
+pub record Table : Type 0 where
+  pub name : Name
+  pub columns : List Column
+  pub slots : List Slot
+
+-- a database is a list of tables, with ascending names
+abbrev pub Database : Type 0
+Database = List Table
+
+-- the rows of a table: those of its slots that are still there, by row id
+abbrev pub content : Table → List (List Value)
+content t = map (λ (slot : Slot). slot.row) (filter (λ (slot : Slot). slot.alive) t.slots)
+
+-- a row that is there
+abbrev pub live_slot : List Value → Slot
+live_slot row = record { row = row; alive = true }
+
+-- a table with rows put at its end
+abbrev pub with_rows : Table → List (List Value) → Table
+with_rows t rows = record t { slots = t.slots ++ map live_slot rows }
+
+-- a table without rows
+abbrev pub empty_table : Name → List Column → Table
+empty_table name columns = record { name = name; columns = columns; slots = [] }
+
+-- whether two names are one
+abbrev pub same_name : Name → Name → Bool
+same_name a b = pointwise nat_eq a b
+
+-- the table of a name, if there is one
+abbrev pub table_of : Name → Database → Option Table
+table_of name db = find (λ (t : Table). same_name t.name name) db
+
+-- where a table goes beside the first of a list: before it, in its place, or further on
+abbrev pub put_beside : Ordering → Table → Table → List Table → List Table → List Table
+put_beside Less t u us put = t ∷ u ∷ us
+put_beside Equal t u us put = t ∷ us
+put_beside Greater t u us put = u ∷ put
+
+-- the database with this table in place of the one of its name, or put in by its name
+abbrev pub put_table : Table → Database → Database
+put_table t [] = t ∷ []
+put_table t (u ∷ us) = put_beside (slice_cmp nat_cmp t.name u.name) t u us (put_table t us)
+
+-- the database without the table of this name
+abbrev pub without_table : Name → Database → Database
+without_table name db = filter (λ (t : Table). if same_name t.name name then false else true) db
+
+-- the database with a name's table as it is seen, or without it where it isn't seen
+abbrev pub as_seen : Option Table → Name → Database → Database
+as_seen None name db = without_table name db
+as_seen (Some t) name db = put_table t db
