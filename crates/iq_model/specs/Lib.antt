@@ -1,3 +1,4 @@
+pub mod Scripts
 pub mod Tables
 pub mod Statements
 pub mod State

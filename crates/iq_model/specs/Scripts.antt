@@ -1,0 +1,42 @@
+-- What the run may count on in a script that was read.
+use Rattle.std.specs.Prelude.{◌≡◌, ◌<◌, ◌≤◌, ℕ, List, [], ◌∷◌, length, Some, ⊤}
+use Rattle.std.specs.List.{AllByRecursion}
+use Rattle.iq_base.specs.declared.nodes.NodeKind.TheVariants.{Coordinator}
+use Rattle.iq_base.specs.declared.nodes.NodeSpec.{NodeSpec}
+use Rattle.iq_base.specs.declared.nodes.SessionSpec.{SessionSpec}
+use Rattle.iq_ast.specs.Built.{IsBuilt}
+use Rattle.iq_model.specs.declared.scripts.Deed.{Deed}
+use Rattle.iq_model.specs.declared.scripts.Deed.TheVariants.{Statement, Step}
+use Rattle.iq_model.specs.declared.scripts.Line.{Line}
+use Rattle.iq_model.specs.declared.scripts.Script.{Script}
+
+-- the one node of a script without declarations: the coordinator c
+abbrev pub the_node : NodeSpec
+the_node = record { name = 99 ∷ []; kind = Coordinator }
+
+-- the one session of such a script: s, on node 0, which has all the lines
+abbrev pub the_session : ℕ → SessionSpec
+the_session lines = record { name = 115 ∷ []; node = 0; lines = lines }
+
+-- a deed that is a statement of the grammar
+abbrev pub IsBuiltDeed : Deed → Type 0
+IsBuiltDeed (Statement statement) = IsBuilt statement
+IsBuiltDeed (Step step) = ⊥
+
+-- a line of the first session that is a statement of the grammar
+pub record IsRunnableLine (line : Line) : Type 0 where
+  pub session : line.session ≡ Some 0
+  pub deed : IsBuiltDeed line.deed
+
+-- the numbers of the lines ascend, each above low
+abbrev pub Ascend : ℕ → List Line → Type 0
+Ascend low [] = ⊤
+Ascend low (line ∷ lines) = (low < line.number) × Ascend line.number lines
+
+-- one node, one session, and at most 64 lines of the grammar, whose numbers ascend from 1 or more
+pub record IsRunnable (script : Script) : Type 0 where
+  pub nodes : script.nodes ≡ the_node ∷ []
+  pub sessions : script.sessions ≡ the_session (length script.lines) ∷ []
+  pub few : length script.lines ≤ 64
+  pub numbers : Ascend 0 script.lines
+  pub each : AllByRecursion IsRunnableLine script.lines
