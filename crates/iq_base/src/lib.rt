@@ -6,6 +6,7 @@
 #![tactic(auto)]
 
 mod answers;
+mod cells;
 mod lists;
 mod locks;
 mod memory;
@@ -17,6 +18,7 @@ mod texts;
 mod values;
 
 pub use answers::{Answer, Out, Versions};
+pub use cells::{BadCell, cell_get, cell_put, width};
 pub use lists::Listed;
 pub use locks::Locks;
 pub use memory::NoMemory;
