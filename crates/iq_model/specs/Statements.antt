@@ -22,7 +22,7 @@ use Rattle.iq_ast.specs.declared.statements.Write.TheVariants as writes
 use Rattle.iq_ast.specs.declared.statements.Select.{Select}
 use Rattle.iq_ast.specs.declared.statements.Item.{Item}
 use Rattle.iq_ast.specs.declared.statements.Item.TheVariants as items
-use Rattle.iq_model.specs.Tables.{Table, Database, content, with_rows, empty_table, same_name, table_of, put_table}
+use Rattle.iq_model.specs.Tables.{Table, Database, content, with_rows, empty_table, same_name, table_of, placed, replaced}
 
 -- A test of a statement: its place in the order of tests, and the refusal that it finds, if any.
 pub record Check : Type 0 where
@@ -178,11 +178,11 @@ created_by _ = []
 -- the database with rows put into a table of it
 abbrev pub inserted : Option Table → List (List Value) → Database → Database
 inserted None rows db = db
-inserted (Some t) rows db = put_table (with_rows t rows) db
+inserted (Some t) rows db = replaced (with_rows t rows) db
 
 -- the database that a write leaves, where it is not refused
 abbrev pub effect : Write → Database → Database
-effect (writes.CreateTable name schema) db = put_table (empty_table name schema.columns) db
+effect (writes.CreateTable name schema) db = placed (empty_table name schema.columns) db
 effect (writes.Insert name rows) db = inserted (table_of name db) rows db
 effect _ db = db
 
