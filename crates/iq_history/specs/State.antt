@@ -1,5 +1,5 @@
 -- A history as contracts see it, and what its calls leave of it.
-use Rattle.std.specs.Prelude.{◌≡◌, ℕ, ◌+◌, ◌≤◌, List, [], ◌∷◌, ◌++◌, length, All}
+use Rattle.std.specs.Prelude.{◌≡◌, ℕ, ◌+◌, ◌≤◌, ◌<◌, ◌^◌, List, [], ◌∷◌, ◌++◌, length, All}
 use Rattle.iq_history.specs.declared.entries.Entry.{Entry}
 use Rattle.iq_history.specs.Placed.{IsPlaced}
 
@@ -33,3 +33,4 @@ pub record IsPushed (old : HistoryState) (entry : Entry) (new : HistoryState) : 
   pub same_sessions : new.sessions ≡ old.sessions
   pub one_more : new.entries ≡ old.entries ++ entry ∷ []
   pub room_used : old.room ≤ new.room + 1
+  pub fits : length new.entries < 2 ^ 64

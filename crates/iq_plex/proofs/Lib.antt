@@ -1,0 +1,10 @@
+pub mod Names
+pub mod Checks
+pub mod Commits
+pub mod Steps
+pub mod Under
+pub mod Ends
+pub mod Start
+pub mod Places
+pub mod Keeping
+pub mod Walking

@@ -1,0 +1,19 @@
+use Rattle.std.proofs.Common.{◌≡◌, ◌+◌, List, [], ◌∷◌, Option, Some, None, refl, sym, subst}
+use Rattle.iq_history.specs.declared.entries.Entry.{Entry}
+use Rattle.iq_history.specs.declared.entries.Entry.TheVariants as entries
+use Rattle.iq_plex.specs.Plex.{PlexState, IsNext, state_of}
+use Rattle.iq_plex.proofs.Keeping.{kept_commit, commit_at, commit_fits, next_of}
+use Rattle.iq_plex.proofs.plex.Plex.commit.Goals as goal
+
+pub overflow_add-number : goal.overflow_add-number
+overflow_add-number c = record { fits = commit_fits c.self.inside.script.value c.self.inside.history c.self.inside.tables.items c.self.inside.latest c.self.invariant }
+
+pub invariant_of-self : goal.invariant_of-self
+invariant_of-self c =
+    let possible = rw (← c.self.view_is) at c.requires in
+    kept_commit c.self.inside.script.value c.self.inside.history c.push.new.self c.self.inside.tables.items c.self.inside.latest c.args.s c.args.line c.self.invariant possible c.push.ensures
+
+pub returns-clause-next : goal.returns-clause-next
+returns-clause-next c = rw (← c.self.view_is)
+    (subst (λ (e : Entry). IsNext (record { script = c.self.inside.script.value; opening = []; entries = c.self.inside.history.entries }) e (record { script = c.self.inside.script.value; opening = []; entries = c.push.new.self.entries })) (commit_at c.self.inside.script.value c.self.inside.history c.self.inside.tables.items c.self.inside.latest c.args.s c.args.line c.self.invariant)
+      (next_of c.self.inside.script.value [] c.self.inside.history.entries c.push.new.self.entries (entries.Commit c.args.s c.args.line (c.self.inside.latest + 1)) c.push.ensures.one_more))

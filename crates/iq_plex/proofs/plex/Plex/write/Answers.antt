@@ -1,0 +1,14 @@
+use Rattle.std.proofs.Common.{◌≡◌, ◌+◌, List, [], ◌∷◌, ◌++◌, Option, Some, None, refl, sym, ap, subst}
+use Rattle.iq_history.specs.declared.entries.Entry.TheVariants as entries
+use Rattle.iq_ast.specs.declared.statements.Statement.TheVariants as statements
+use Rattle.iq_plex.proofs.Keeping.{kept_write, next_of}
+use Rattle.iq_plex.proofs.plex.Plex.write.Goals as goal
+
+pub invariant_of-self-2 : goal.invariant_of-self-2
+invariant_of-self-2 c =
+    let holds = rw (← c.self.view_is) at c.requires in
+    let took = c.in_ok-write.ensures.ok c.self.invariant.seen c.self.invariant.tables_stand in
+    kept_write c.self.inside.script.value c.self.inside.history c.push.new.self c.self.inside.tables.items c.write.new.tables.items c.self.inside.latest c.args.s c.args.line (statements.Write c.args.write.now) c.self.invariant holds c.push.ensures took.0 took.1
+
+pub returns-clause-ok : goal.returns-clause-ok
+returns-clause-ok c = rw (← c.self.view_is) (next_of c.self.inside.script.value [] c.self.inside.history.entries c.push.new.self.entries (entries.Done c.args.s c.args.line) c.push.ensures.one_more)

@@ -1,0 +1,4 @@
+pub mod Plex
+pub mod Sound
+pub mod Stored
+pub mod Kept

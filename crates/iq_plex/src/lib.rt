@@ -1,0 +1,7 @@
+//! The shared state.
+#![tactic(auto)]
+
+mod plex;
+mod tables;
+
+pub use plex::Plex;
