@@ -1,5 +1,5 @@
 -- What the statements on tables mean over plain tables: the first refusal, the answer of a query, the effect of a write.
-use Rattle.std.specs.Prelude.{◌≡◌, ℕ, ℤ, pos, negsuc, ◌+◌, Bool, true, false, List, [], ◌∷◌, ◌++◌, Option, Some, None, nat_lt, nat_le, nat_eq, map, length, if◌then◌else◌, is_none, is_some}
+use Rattle.std.specs.Prelude.{ℕ, ℤ, pos, negsuc, ◌+◌, Bool, true, false, List, [], ◌∷◌, Option, Some, None, nat_lt, nat_le, nat_eq, map, length, if◌then◌else◌, is_none, is_some}
 use Rattle.std.specs.List.{position, slice_get}
 use Rattle.std.specs.Option.{option_or}
 use Rattle.iq_base.specs.declared.names.Name.{Name}
@@ -14,7 +14,7 @@ use Rattle.iq_base.specs.declared.refusals.Refusal.{Refusal}
 use Rattle.iq_base.specs.declared.refusals.Refusal.TheVariants as refusals
 use Rattle.iq_base.specs.declared.refusals.FieldCause.{FieldCause}
 use Rattle.iq_base.specs.declared.refusals.FieldCause.TheVariants as causes
-use Rattle.iq_base.specs.Locks.{locks_of, catalog_name}
+use Rattle.iq_base.specs.Locks.{locks_of}
 use Rattle.iq_ast.specs.declared.statements.Statement.{Statement}
 use Rattle.iq_ast.specs.declared.statements.Statement.TheVariants as statements
 use Rattle.iq_ast.specs.declared.statements.Write.{Write}
@@ -22,7 +22,7 @@ use Rattle.iq_ast.specs.declared.statements.Write.TheVariants as writes
 use Rattle.iq_ast.specs.declared.statements.Select.{Select}
 use Rattle.iq_ast.specs.declared.statements.Item.{Item}
 use Rattle.iq_ast.specs.declared.statements.Item.TheVariants as items
-use Rattle.iq_model.specs.Tables.{Table, Database, content, with_rows, empty_table, same_name, table_of, put_table}
+use Rattle.iq_model.specs.Tables.{Table, Database, content, with_rows, empty_table, same_name, table_of, placed, replaced}
 
 -- A test of a statement: its place in the order of tests, and the refusal that it finds, if any.
 pub record Check : Type 0 where
@@ -178,11 +178,11 @@ created_by _ = []
 -- the database with rows put into a table of it
 abbrev pub inserted : Option Table → List (List Value) → Database → Database
 inserted None rows db = db
-inserted (Some t) rows db = put_table (with_rows t rows) db
+inserted (Some t) rows db = replaced (with_rows t rows) db
 
 -- the database that a write leaves, where it is not refused
 abbrev pub effect : Write → Database → Database
-effect (writes.CreateTable name schema) db = put_table (empty_table name schema.columns) db
+effect (writes.CreateTable name schema) db = placed (empty_table name schema.columns) db
 effect (writes.Insert name rows) db = inserted (table_of name db) rows db
 effect _ db = db
 

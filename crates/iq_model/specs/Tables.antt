@@ -1,8 +1,6 @@
 -- Plain tables: lists of rows under names, with no page, code or index.
-use Rattle.std.specs.Prelude.{◌≡◌, ℕ, Bool, true, false, List, [], ◌∷◌, ◌++◌, Option, Some, None, nat_eq, filter, map, find, length, if◌then◌else◌}
-use Rattle.std.specs.Ordering.{nat_cmp}
-use Rattle.std.specs.declared.cmp.Ordering.{Ordering}
-use Rattle.std.specs.declared.cmp.Ordering.TheVariants.{Less, Equal, Greater}
+use Rattle.std.specs.Prelude.{Bool, true, false, List, [], ◌∷◌, ◌++◌, Option, Some, None, nat_eq, filter, map, find, if◌then◌else◌}
+use Rattle.std.specs.Ordering.{nat_cmp, is_gt}
 use Rattle.std.specs.Cmp.Lexicographic.{pointwise, slice_cmp}
 use Rattle.iq_base.specs.declared.names.Name.{Name}
 use Rattle.iq_base.specs.declared.values.Value.{Value}
@@ -47,16 +45,23 @@ same_name a b = pointwise nat_eq a b
 abbrev pub table_of : Name → Database → Option Table
 table_of name db = find (λ (t : Table). same_name t.name name) db
 
--- where a table goes beside the first of a list: before it, in its place, or further on
-abbrev pub put_beside : Ordering → Table → Table → List Table → List Table → List Table
-put_beside Less t u us put = t ∷ u ∷ us
-put_beside Equal t u us put = t ∷ us
-put_beside Greater t u us put = u ∷ put
+-- the database with a table put in before the first of a name that isn't below its own
+abbrev pub placed : Table → Database → Database
+placed t [] = t ∷ []
+placed t (u ∷ us) = if is_gt (slice_cmp nat_cmp t.name u.name) then u ∷ placed t us else t ∷ u ∷ us
 
--- the database with this table in place of the one of its name, or put in by its name
+-- the database with a table in place of the one of its name
+abbrev pub replaced : Table → Database → Database
+replaced t [] = []
+replaced t (u ∷ us) = if same_name u.name t.name then t ∷ us else u ∷ replaced t us
+
+-- the database with this table: in place of the one of its name, where there is one
+abbrev pub put_over : Option Table → Table → Database → Database
+put_over None t db = placed t db
+put_over (Some before) t db = replaced t db
+
 abbrev pub put_table : Table → Database → Database
-put_table t [] = t ∷ []
-put_table t (u ∷ us) = put_beside (slice_cmp nat_cmp t.name u.name) t u us (put_table t us)
+put_table t db = put_over (table_of t.name db) t db
 
 -- the database without the table of this name
 abbrev pub without_table : Name → Database → Database

@@ -5,8 +5,10 @@
 //! and `iq_history`; above stands every crate that promises what a run means.
 #![tactic(auto)]
 
+mod checks;
 mod replies;
 mod scripts;
 
+pub use checks::{column_place, first_bad_row, first_no_column};
 pub use replies::{Reply, Said};
 pub use scripts::{Deed, Line, Script, Step};
