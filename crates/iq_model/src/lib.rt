@@ -11,6 +11,6 @@ mod replies;
 mod scripts;
 
 pub use checks::{column_place, first_bad_row, first_no_column};
-pub use plain_tables::{PlainSlot, PlainTable, PlainTables, put_table, table_of};
+pub use plain_tables::{PlainSlot, PlainTable, PlainTables, placed, replaced, table_of};
 pub use replies::{Reply, Said};
 pub use scripts::{Deed, Line, Script, Step};

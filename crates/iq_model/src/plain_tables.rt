@@ -1,11 +1,10 @@
 //! Tables as plain lists of rows.
 ghost use Rattle.std.specs.Prelude.{◌≡◌, ◌<◌, ◌^◌, ◌∷◌, ◌++◌, map, length, IfOk, OnOk};
 ghost use Rattle.std.specs.Option.{option_copied};
-ghost use Rattle.iq_model.specs.Tables.{table_of, with_rows, empty_table, put_table, live_slot};
+ghost use Rattle.iq_model.specs.Tables.{table_of, with_rows, empty_table, placed, replaced, live_slot};
 
 use iq_base::{Column, Listed, Name, NoMemory, Row, Value};
 use std::alloc::Global;
-use std::cmp::Ordering;
 use std::marker::Model;
 
 /// A row that was put into a table, and whether it is still there.
@@ -146,27 +145,37 @@ pub fn table_of<'a>(tables: &'a [PlainTable], name: &Name) -> Option<&'a PlainTa
     tables.iter().find(|table| table.name() == name)
 }
 
-/// Copies of the tables with this one in place of the one of its name, or put in by its name.
-pub fn put_table(alloc: Global, table: PlainTable, tables: &[PlainTable]) -> Result<PlainTables, NoMemory>
-    ensures { IfOk result (λ put. put ≡ put_table table tables.now) }
+/// Copies of the tables with this one put in before the first whose name isn't below its own.
+pub fn placed(alloc: Global, table: PlainTable, tables: &[PlainTable]) -> Result<PlainTables, NoMemory>
+    ensures { IfOk result (λ put. put ≡ placed table tables.now) }
 {
     let mut put = Listed::new(alloc);
     for (i, other) in tables.iter().enumerate() {
-        match table.name().cmp(other.name()) {
-            Ordering::Less => {
-                put.push(table)?;
-                push_tables(alloc, &mut put, tables.split_at(i).1)?;
-                return Ok(put);
-            }
-            Ordering::Equal => {
-                put.push(table)?;
-                push_tables(alloc, &mut put, tables.split_at(i + 1).1)?;
-                return Ok(put);
-            }
-            Ordering::Greater => put.push(other.copied(alloc)?)?,
+        if table.name().cmp(other.name()).is_gt() {
+            put.push(other.copied(alloc)?)?;
+            continue;
         }
+        put.push(table)?;
+        push_tables(alloc, &mut put, tables.split_at(i).1)?;
+        return Ok(put);
     }
     put.push(table)?;
+    Ok(put)
+}
+
+/// Copies of the tables with this one in place of the one of its name.
+pub fn replaced(alloc: Global, table: PlainTable, tables: &[PlainTable]) -> Result<PlainTables, NoMemory>
+    ensures { IfOk result (λ put. put ≡ replaced table tables.now) }
+{
+    let mut put = Listed::new(alloc);
+    for (i, other) in tables.iter().enumerate() {
+        if other.name() == table.name() {
+            put.push(table)?;
+            push_tables(alloc, &mut put, tables.split_at(i + 1).1)?;
+            return Ok(put);
+        }
+        put.push(other.copied(alloc)?)?;
+    }
     Ok(put)
 }
 
