@@ -180,7 +180,7 @@ pub fn replaced(alloc: Global, table: PlainTable, tables: &[PlainTable]) -> Resu
 }
 
 /// Puts copies of tables at the end.
-fn push_tables(alloc: Global, put: &mut PlainTables, tables: &[PlainTable]) -> Result<(), NoMemory>
+pub fn push_tables(alloc: Global, put: &mut PlainTables, tables: &[PlainTable]) -> Result<(), NoMemory>
     ensures { OnOk result (put.new ≡ put.old ++ tables.now) }
 {
     for table in tables {
