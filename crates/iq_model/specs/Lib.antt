@@ -4,3 +4,4 @@ pub mod Statements
 pub mod State
 pub mod History
 pub mod Plain
+pub mod OneSession
