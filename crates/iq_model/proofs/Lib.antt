@@ -1,2 +1,4 @@
 pub mod Replay
 pub mod Committed
+pub mod LineSteps
+pub mod LineRuns
