@@ -3,6 +3,7 @@ use Rattle.std.proofs.Common.{◌≡◌, ◌≢◌, inl, inr, ℕ, ◌+◌, ◌�
 use Rattle.std.specs.Option.{option_or}
 use Rattle.iq_base.specs.declared.names.Name.{Name}
 use Rattle.iq_base.specs.declared.refusals.Refusal.{Refusal}
+use Rattle.iq_base.specs.declared.answers.Answer.TheVariants as answers
 use Rattle.iq_ast.specs.declared.statements.Statement.{Statement}
 use Rattle.iq_ast.specs.declared.statements.Statement.TheVariants as statements
 use Rattle.iq_ast.specs.declared.statements.Select.{Select}
@@ -15,10 +16,11 @@ use Rattle.iq_model.specs.declared.scripts.Deed.TheVariants as deeds
 use Rattle.iq_model.specs.declared.replies.Reply.{Reply}
 use Rattle.iq_model.specs.declared.replies.Said.TheVariants as said
 use Rattle.iq_model.specs.Tables.{Database}
-use Rattle.iq_model.specs.Statements.{first_refusal, statement_checks, room_checks, names_of, created_by, effect}
-use Rattle.iq_model.specs.State.{begun, locked, Run, Written, State, not_held, locks, lock_checks, committed, written_at}
+use Rattle.iq_model.specs.Statements.{first_refusal, statement_checks, room_checks, names_of, created_by, effect, answer}
+use Rattle.iq_model.specs.State.{begun, locked, Run, Written, State, first_locked, first_later, not_held, lock_checks, committed, written_at}
 use Rattle.iq_model.specs.History.{IsOnTables, checks_to_lock, checks_of, begin_work, begin_run, takes_effect, change, replay, IsLegal, statement_said, write_said, replies}
 use Rattle.iq_model.specs.OneSession.{one, between, NoneLater, IsBetween, LeadsTo, RunsLine}
+use Rattle.iq_model.proofs.Replay.{replay-append, IsLegal-append, replies-append}
 use Rattle.iq_model.proofs.LineSteps.{first_refusal-append, first_locked-alone, not_held-one, leads-nil, line_of, within, by_begin, by_lock, by_done, by_refused, by_end, by_commit}
 
 -- what is shown of each state of one session is shown of each state that stands so
@@ -36,6 +38,12 @@ stands : (c : ℕ) (db : Database) (older : List Database) (wrote : List Written
 stands c db older wrote position lines none =
     leads-nil _ c db lines (record { older = older; wrote = wrote; position = position; is = refl; none_later = none })
 
+-- names that were written by an earlier commit, or by the next
+none_later-more : (c : ℕ) (wrote : List Written) (names : List Name) → NoneLater c wrote → NoneLater (c + 1) (map (written_at (c + 1)) names ++ wrote)
+none_later-more c [] [] none = tt
+none_later-more c (w ∷ ws) [] none = (omega (arith, none.0), none_later-more c ws [] none.1)
+none_later-more c wrote (name ∷ names) none = (omega arith, none_later-more c wrote names none)
+
 -- a line that is refused before it locks a name
 pub runs-refused : (line : Line) (statement : Statement) (cause : Refusal) (c : ℕ) (db : Database) → line.deed ≡ deeds.Statement statement → IsOnTables statement → first_refusal (statement_checks statement db) ≡ Some cause → RunsLine line c db (entries.Begin 0 line.number c ∷ entries.Refused (Some 0) line.number cause ∷ []) (record { line = line.number; said = said.Refused cause }) c db
 runs-refused line statement cause c db deed on found =
@@ -49,3 +57,69 @@ runs-refused line statement cause c db deed on found =
         let s : State = one c db older wrote position (within (begin_run c db) begun (line_of line.number line.session statement ∷ rest)) in
         first_refusal-append (checks_to_lock s 0 (begin_run c db) statement) (room_checks statement db)
         ∙ ap (λ (o : Option Refusal). option_or o (first_refusal (room_checks statement db))) (first_refusal-append (statement_checks statement db) (lock_checks s 0 (begin_run c db) statement) ∙ ap (λ (o : Option Refusal). option_or o (first_refusal (lock_checks s 0 (begin_run c db) statement))) found)
+
+-- a write that is refused once its name is locked
+pub runs-full : (line : Line) (write : Write) (name : Name) (cause : Refusal) (c : ℕ) (db : Database) → line.deed ≡ deeds.Statement (statements.Write write) → names_of write ≡ name ∷ [] → first_refusal (statement_checks (statements.Write write) db) ≡ None → first_refusal (room_checks (statements.Write write) db) ≡ Some cause → RunsLine line c db (entries.Begin 0 line.number c ∷ entries.Lock 0 line.number (names_of write) ∷ entries.Refused (Some 0) line.number cause ∷ []) (record { line = line.number; said = said.Refused cause }) c db
+runs-full line write name cause c db deed are granted found =
+    subst (λ (names : List Name). RunsLine line c db (entries.Begin 0 line.number c ∷ entries.Lock 0 line.number names ∷ entries.Refused (Some 0) line.number cause ∷ []) (record { line = line.number; said = said.Refused cause }) c db) (sym are)
+    (runs-deed line (statements.Write write) c db _ _ c db deed
+    (runs-one _ c db _ _ c db (λ older wrote position rest none.
+      by_begin line.number line.session (statements.Write write) rest c db older wrote position _ _ c db tt
+      (by_lock line.number line.session (statements.Write write) rest c db older wrote position _ _ c db name are granted none
+      (by_refused line.number line.session (statements.Write write) rest c db older wrote position _ _ c db run locked cause tt (first older wrote position rest) (stands c db older wrote position rest none))))))
+  where
+    run : Run
+    run = record { snapshot = c; start = begin_work db; now = record { seen = db; held = name ∷ []; created = [] } }
+    first : (older : List Database) (wrote : List Written) (position : ℕ) (rest : List Line) → first_refusal (checks_of (one c db older wrote position (within run locked (line_of line.number line.session (statements.Write write) ∷ rest))) 0 run (statements.Write write)) ≡ Some cause
+    first older wrote position rest =
+        let s : State = one c db older wrote position (within run locked (line_of line.number line.session (statements.Write write) ∷ rest)) in
+        first_refusal-append (checks_to_lock s 0 run (statements.Write write)) (room_checks (statements.Write write) db)
+        ∙ ap (λ (o : Option Refusal). option_or o (first_refusal (room_checks (statements.Write write) db))) (first_refusal-append (statement_checks (statements.Write write) db) (lock_checks s 0 run (statements.Write write)) ∙ ap (λ (o : Option Refusal). option_or o (first_refusal (lock_checks s 0 run (statements.Write write)))) granted ∙ ap (λ (names : List Name). option_or (first_locked s.desks 0 names) (option_or (first_later wrote c names) None)) (ap (not_held (name ∷ [])) are ∙ not_held-one name))
+        ∙ found
+
+-- a write that takes effect
+pub runs-written : (line : Line) (write : Write) (name : Name) (c : ℕ) (db : Database) → line.deed ≡ deeds.Statement (statements.Write write) → names_of write ≡ name ∷ [] → first_refusal (statement_checks (statements.Write write) db) ≡ None → first_refusal (room_checks (statements.Write write) db) ≡ None → committed (record { seen = effect write db; held = name ∷ []; created = created_by write }) db ≡ effect write db → RunsLine line c db (entries.Begin 0 line.number c ∷ entries.Lock 0 line.number (names_of write) ∷ entries.Done 0 line.number ∷ entries.Commit 0 line.number (c + 1) ∷ []) (record { line = line.number; said = write_said write (Some (c + 1)) }) (c + 1) (effect write db)
+runs-written line write name c db deed are granted room whole =
+    subst (λ (names : List Name). RunsLine line c db (entries.Begin 0 line.number c ∷ entries.Lock 0 line.number names ∷ entries.Done 0 line.number ∷ entries.Commit 0 line.number (c + 1) ∷ []) (record { line = line.number; said = write_said write (Some (c + 1)) }) (c + 1) (effect write db)) (sym are)
+    (runs-deed line (statements.Write write) c db _ _ (c + 1) (effect write db) deed
+    (runs-one _ c db _ _ (c + 1) (effect write db) (λ older wrote position rest none.
+      by_begin line.number line.session (statements.Write write) rest c db older wrote position _ _ (c + 1) (effect write db) tt
+      (by_lock line.number line.session (statements.Write write) rest c db older wrote position _ _ (c + 1) (effect write db) name are granted none
+      (by_done line.number line.session (statements.Write write) rest c db older wrote position _ _ (c + 1) (effect write db) run locked tt (record { held = ap (not_held (name ∷ [])) are ∙ not_held-one name; granted = all })
+      (by_commit line.number line.session (statements.Write write) rest c db older wrote position _ _ (c + 1) (effect write db) (record run { now = takes_effect (statements.Write write) run.now }) (λ e. cc)
+      (subst (λ (after : Database). LeadsTo (one (c + 1) after (older ++ db ∷ []) (map (written_at (c + 1)) (name ∷ created_by write) ++ wrote) (c + 1) (between rest)) [] [] (c + 1) (effect write db) rest) (sym whole)
+      (stands (c + 1) (effect write db) (older ++ db ∷ []) (map (written_at (c + 1)) (name ∷ created_by write) ++ wrote) (c + 1) rest (none_later-more c wrote (name ∷ created_by write) none)))))))))
+  where
+    run : Run
+    run = record { snapshot = c; start = begin_work db; now = record { seen = db; held = name ∷ []; created = [] } }
+    all : first_refusal (statement_checks (statements.Write write) db ++ room_checks (statements.Write write) db) ≡ None
+    all =
+        first_refusal-append (statement_checks (statements.Write write) db) (room_checks (statements.Write write) db)
+        ∙ ap (λ (o : Option Refusal). option_or o (first_refusal (room_checks (statements.Write write) db))) granted
+        ∙ room
+
+-- a query that is answered
+pub runs-answered : (line : Line) (select : Select) (c : ℕ) (db : Database) → line.deed ≡ deeds.Statement (statements.Select select) → first_refusal (statement_checks (statements.Select select) db) ≡ None → RunsLine line c db (entries.Begin 0 line.number c ∷ entries.Done 0 line.number ∷ entries.End 0 line.number ∷ []) (record { line = line.number; said = said.Answer (answers.Rows (answer select db)) }) c db
+runs-answered line select c db deed granted =
+    runs-deed line (statements.Select select) c db _ _ c db deed
+    (runs-one _ c db _ _ c db (λ older wrote position rest none.
+      by_begin line.number line.session (statements.Select select) rest c db older wrote position _ _ c db tt
+      (by_done line.number line.session (statements.Select select) rest c db older wrote position _ _ c db (begin_run c db) begun tt (record { held = refl; granted = all })
+      (by_end line.number line.session (statements.Select select) rest c db older wrote position _ _ c db (begin_run c db) refl (stands c db older wrote position rest none)))))
+  where
+    all : first_refusal (statement_checks (statements.Select select) db ++ []) ≡ None
+    all = first_refusal-append (statement_checks (statements.Select select) db) [] ∙ ap (λ (o : Option Refusal). option_or o None) granted
+
+-- LINES AFTER ONE ANOTHER
+
+-- a history with more entries
+pub leads-append : (s : State) (es es' : List Entry) (rs rs' : List Reply) (c c' : ℕ) (db db' : Database) (lines lines' : List Line) → LeadsTo s es rs c db lines → LeadsTo (replay s es) es' rs' c' db' lines' → LeadsTo s (es ++ es') (rs ++ rs') c' db' lines'
+leads-append s es es' rs rs' c c' db db' lines lines' first next =
+    record {
+      legal = IsLegal-append s es es' first.legal next.legal;
+      gives =
+        replies-append s es es'
+        ∙ ap (λ (q : List Reply). q ++ replies (replay s es) es') first.gives
+        ∙ ap (λ (q : List Reply). rs ++ q) next.gives;
+      leaves = subst (IsBetween c' db' lines') (sym (replay-append s es es')) next.leaves;
+    }
