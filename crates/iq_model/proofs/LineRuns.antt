@@ -49,8 +49,8 @@ pub runs-refused : (line : Line) (statement : Statement) (cause : Refusal) (c : 
 runs-refused line statement cause c db deed on found =
     runs-deed line statement c db _ _ c db deed
     (runs-one _ c db _ _ c db (λ older wrote position rest none.
-      by_begin line.number line.session statement rest c db older wrote position _ _ c db on
-      (by_refused line.number line.session statement rest c db older wrote position _ _ c db (begin_run c db) begun cause tt (first older wrote position rest) (stands c db older wrote position rest none))))
+    by_begin line.number line.session statement rest c db older wrote position _ _ c db on
+    (by_refused line.number line.session statement rest c db older wrote position _ _ c db (begin_run c db) begun cause tt (first older wrote position rest) (stands c db older wrote position rest none))))
   where
     first : (older : List Database) (wrote : List Written) (position : ℕ) (rest : List Line) → first_refusal (checks_of (one c db older wrote position (within (begin_run c db) begun (line_of line.number line.session statement ∷ rest))) 0 (begin_run c db) statement) ≡ Some cause
     first older wrote position rest =
@@ -64,12 +64,13 @@ runs-full line write name cause c db deed are granted found =
     subst (λ (names : List Name). RunsLine line c db (entries.Begin 0 line.number c ∷ entries.Lock 0 line.number names ∷ entries.Refused (Some 0) line.number cause ∷ []) (record { line = line.number; said = said.Refused cause }) c db) (sym are)
     (runs-deed line (statements.Write write) c db _ _ c db deed
     (runs-one _ c db _ _ c db (λ older wrote position rest none.
-      by_begin line.number line.session (statements.Write write) rest c db older wrote position _ _ c db tt
-      (by_lock line.number line.session (statements.Write write) rest c db older wrote position _ _ c db name are granted none
-      (by_refused line.number line.session (statements.Write write) rest c db older wrote position _ _ c db run locked cause tt (first older wrote position rest) (stands c db older wrote position rest none))))))
+    by_begin line.number line.session (statements.Write write) rest c db older wrote position _ _ c db tt
+    (by_lock line.number line.session (statements.Write write) rest c db older wrote position _ _ c db name are granted none
+    (by_refused line.number line.session (statements.Write write) rest c db older wrote position _ _ c db run locked cause tt (first older wrote position rest) (stands c db older wrote position rest none))))))
   where
     run : Run
     run = record { snapshot = c; start = begin_work db; now = record { seen = db; held = name ∷ []; created = [] } }
+
     first : (older : List Database) (wrote : List Written) (position : ℕ) (rest : List Line) → first_refusal (checks_of (one c db older wrote position (within run locked (line_of line.number line.session (statements.Write write) ∷ rest))) 0 run (statements.Write write)) ≡ Some cause
     first older wrote position rest =
         let s : State = one c db older wrote position (within run locked (line_of line.number line.session (statements.Write write) ∷ rest)) in
@@ -83,15 +84,16 @@ runs-written line write name c db deed are granted room whole =
     subst (λ (names : List Name). RunsLine line c db (entries.Begin 0 line.number c ∷ entries.Lock 0 line.number names ∷ entries.Done 0 line.number ∷ entries.Commit 0 line.number (c + 1) ∷ []) (record { line = line.number; said = write_said write (Some (c + 1)) }) (c + 1) (effect write db)) (sym are)
     (runs-deed line (statements.Write write) c db _ _ (c + 1) (effect write db) deed
     (runs-one _ c db _ _ (c + 1) (effect write db) (λ older wrote position rest none.
-      by_begin line.number line.session (statements.Write write) rest c db older wrote position _ _ (c + 1) (effect write db) tt
-      (by_lock line.number line.session (statements.Write write) rest c db older wrote position _ _ (c + 1) (effect write db) name are granted none
-      (by_done line.number line.session (statements.Write write) rest c db older wrote position _ _ (c + 1) (effect write db) run locked tt (record { held = ap (not_held (name ∷ [])) are ∙ not_held-one name; granted = all })
-      (by_commit line.number line.session (statements.Write write) rest c db older wrote position _ _ (c + 1) (effect write db) (record run { now = takes_effect (statements.Write write) run.now }) (λ e. cc)
-      (subst (λ (after : Database). LeadsTo (one (c + 1) after (older ++ db ∷ []) (map (written_at (c + 1)) (name ∷ created_by write) ++ wrote) (c + 1) (between rest)) [] [] (c + 1) (effect write db) rest) (sym whole)
-      (stands (c + 1) (effect write db) (older ++ db ∷ []) (map (written_at (c + 1)) (name ∷ created_by write) ++ wrote) (c + 1) rest (none_later-more c wrote (name ∷ created_by write) none)))))))))
+    by_begin line.number line.session (statements.Write write) rest c db older wrote position _ _ (c + 1) (effect write db) tt
+    (by_lock line.number line.session (statements.Write write) rest c db older wrote position _ _ (c + 1) (effect write db) name are granted none
+    (by_done line.number line.session (statements.Write write) rest c db older wrote position _ _ (c + 1) (effect write db) run locked tt (record { held = ap (not_held (name ∷ [])) are ∙ not_held-one name; granted = all })
+    (by_commit line.number line.session (statements.Write write) rest c db older wrote position _ _ (c + 1) (effect write db) (record run { now = takes_effect (statements.Write write) run.now }) (λ e. cc)
+    (subst (λ (after : Database). LeadsTo (one (c + 1) after (older ++ db ∷ []) (map (written_at (c + 1)) (name ∷ created_by write) ++ wrote) (c + 1) (between rest)) [] [] (c + 1) (effect write db) rest) (sym whole)
+    (stands (c + 1) (effect write db) (older ++ db ∷ []) (map (written_at (c + 1)) (name ∷ created_by write) ++ wrote) (c + 1) rest (none_later-more c wrote (name ∷ created_by write) none)))))))))
   where
     run : Run
     run = record { snapshot = c; start = begin_work db; now = record { seen = db; held = name ∷ []; created = [] } }
+
     all : first_refusal (statement_checks (statements.Write write) db ++ room_checks (statements.Write write) db) ≡ None
     all =
         first_refusal-append (statement_checks (statements.Write write) db) (room_checks (statements.Write write) db)
@@ -103,9 +105,9 @@ pub runs-answered : (line : Line) (select : Select) (c : ℕ) (db : Database) �
 runs-answered line select c db deed granted =
     runs-deed line (statements.Select select) c db _ _ c db deed
     (runs-one _ c db _ _ c db (λ older wrote position rest none.
-      by_begin line.number line.session (statements.Select select) rest c db older wrote position _ _ c db tt
-      (by_done line.number line.session (statements.Select select) rest c db older wrote position _ _ c db (begin_run c db) begun tt (record { held = refl; granted = all })
-      (by_end line.number line.session (statements.Select select) rest c db older wrote position _ _ c db (begin_run c db) refl (stands c db older wrote position rest none)))))
+    by_begin line.number line.session (statements.Select select) rest c db older wrote position _ _ c db tt
+    (by_done line.number line.session (statements.Select select) rest c db older wrote position _ _ c db (begin_run c db) begun tt (record { held = refl; granted = all })
+    (by_end line.number line.session (statements.Select select) rest c db older wrote position _ _ c db (begin_run c db) refl (stands c db older wrote position rest none)))))
   where
     all : first_refusal (statement_checks (statements.Select select) db ++ []) ≡ None
     all = first_refusal-append (statement_checks (statements.Select select) db) [] ∙ ap (λ (o : Option Refusal). option_or o None) granted
@@ -118,8 +120,8 @@ leads-append s es es' rs rs' c c' db db' lines lines' first next =
     record {
       legal = IsLegal-append s es es' first.legal next.legal;
       gives =
-        replies-append s es es'
-        ∙ ap (λ (q : List Reply). q ++ replies (replay s es) es') first.gives
-        ∙ ap (λ (q : List Reply). rs ++ q) next.gives;
+          replies-append s es es'
+          ∙ ap (λ (q : List Reply). q ++ replies (replay s es) es') first.gives
+          ∙ ap (λ (q : List Reply). rs ++ q) next.gives;
       leaves = subst (IsBetween c' db' lines') (sym (replay-append s es es')) next.leaves;
     }

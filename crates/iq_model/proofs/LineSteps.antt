@@ -76,9 +76,9 @@ leads-cons s s' e es rs rs' c db lines possible changed reply next =
     record {
       legal = (possible, subst (λ (t : State). IsLegal t es) (sym changed) next.legal);
       gives =
-        ap (λ (q : List Reply). q ++ replies (change s e) es) reply
-        ∙ ap (λ (t : State). rs ++ replies t es) changed
-        ∙ ap (λ (q : List Reply). rs ++ q) next.gives;
+          ap (λ (q : List Reply). q ++ replies (change s e) es) reply
+          ∙ ap (λ (t : State). rs ++ replies t es) changed
+          ∙ ap (λ (q : List Reply). rs ++ q) next.gives;
       leaves = subst (λ (t : State). IsBetween c db lines (replay t es)) (sym changed) next.leaves;
     }
 

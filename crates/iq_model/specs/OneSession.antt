@@ -1,12 +1,15 @@
 -- The state of a script of one session on one node, between two of its lines.
-use Rattle.std.specs.Prelude.{◌≡◌, ℕ, ◌≤◌, List, [], ◌∷◌}
+use Rattle.std.specs.Prelude.{◌≡◌, ℕ, ◌≤◌, List, [], ◌∷◌, Some}
 use Rattle.iq_base.specs.declared.nodes.NodeKind.TheVariants as node_kinds
+use Rattle.iq_base.specs.declared.refusals.Refusal.{Refusal}
+use Rattle.iq_ast.specs.declared.statements.Statement.{Statement}
 use Rattle.iq_history.specs.declared.entries.Entry.{Entry}
 use Rattle.iq_model.specs.declared.replies.Reply.{Reply}
 use Rattle.iq_model.specs.declared.scripts.Line.{Line}
 use Rattle.iq_model.specs.Tables.{Database}
+use Rattle.iq_model.specs.Statements.{first_refusal, statement_checks}
 use Rattle.iq_model.specs.State.{fresh, idle, Desk, NodeState, Written, State}
-use Rattle.iq_model.specs.History.{IsLegal, replay, replies}
+use Rattle.iq_model.specs.History.{IsOnTables, IsLegal, replay, replies}
 
 -- the coordinator
 abbrev pub coordinator : ℕ → NodeState
@@ -51,3 +54,8 @@ pub record LeadsTo (s : State) (es : List Entry) (rs : List Reply) (c : ℕ) (db
 abbrev pub RunsLine : Line → ℕ → Database → List Entry → Reply → ℕ → Database → Type 0
 RunsLine line c db es reply c' db' =
     (s : State) (rest : List Line) → IsBetween c db (line ∷ rest) s → LeadsTo s es (reply ∷ []) c' db' rest
+
+-- the statement is refused by a test that comes before its locks
+pub record RefusesAtOnce (cause : Refusal) (db : Database) (statement : Statement) : Type 0 where
+  pub on_tables : IsOnTables statement
+  pub found : first_refusal (statement_checks statement db) ≡ Some cause

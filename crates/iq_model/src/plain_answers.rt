@@ -11,14 +11,27 @@ use iq_base::{Column, Listed, NoMemory, Out, Value};
 use std::alloc::Global;
 
 /// The rows of a query, where it is not refused: one row with the number of rows for COUNT(*), else the values of each row.
-pub fn answer(alloc: Global, select: &Select, tables: &[PlainTable]) -> Result<Listed<Listed<Out>>, NoMemory>
+pub fn answer(
+    alloc: Global,
+    select: &Select,
+    tables: &[PlainTable],
+) -> Result<Listed<Listed<Out>>, NoMemory>
     ensures { IfOk result (λ rows. rows ≡ answer select.now tables.now) }
 {
-    rows_at(alloc, table_of(tables, &select.table), select.items.as_slice())
+    rows_at(
+        alloc,
+        table_of(tables, &select.table),
+        select.items.as_slice(),
+    )
 }
 
 /// One row of an answer: each member's value.
-pub fn projected_row(alloc: Global, columns: &[Column], items: &[Item], row: &[Value]) -> Result<Listed<Out>, NoMemory>
+pub fn projected_row(
+    alloc: Global,
+    columns: &[Column],
+    items: &[Item],
+    row: &[Value],
+) -> Result<Listed<Out>, NoMemory>
     ensures { IfOk result (λ outs. outs ≡ projected columns.now items.now row.now) }
 {
     let mut outs = Listed::new(alloc);
@@ -70,7 +83,11 @@ fn value_or_null(value: Option<&Value>) -> Out
 }
 
 /// The rows of a query over the table that it names, if there is one.
-fn rows_at(alloc: Global, table: Option<&PlainTable>, items: &[Item]) -> Result<Listed<Listed<Out>>, NoMemory>
+fn rows_at(
+    alloc: Global,
+    table: Option<&PlainTable>,
+    items: &[Item],
+) -> Result<Listed<Listed<Out>>, NoMemory>
     ensures { IfOk result (λ rows. rows ≡ rows_at (option_copied table.entry) items.now) }
 {
     match table {
@@ -80,7 +97,12 @@ fn rows_at(alloc: Global, table: Option<&PlainTable>, items: &[Item]) -> Result<
 }
 
 /// The rows of a query over the slots of a table.
-fn rows_of(alloc: Global, columns: &[Column], items: &[Item], slots: &[PlainSlot]) -> Result<Listed<Listed<Out>>, NoMemory>
+fn rows_of(
+    alloc: Global,
+    columns: &[Column],
+    items: &[Item],
+    slots: &[PlainSlot],
+) -> Result<Listed<Listed<Out>>, NoMemory>
     ensures { IfOk result (λ rows. rows ≡ rows_of columns.now items.now (rows_in slots.now)) }
 {
     match items {
@@ -114,7 +136,12 @@ fn live_rows(slots: &[PlainSlot]) -> usize
 }
 
 /// The values of each live row.
-fn projected_rows(alloc: Global, columns: &[Column], items: &[Item], slots: &[PlainSlot]) -> Result<Listed<Listed<Out>>, NoMemory>
+fn projected_rows(
+    alloc: Global,
+    columns: &[Column],
+    items: &[Item],
+    slots: &[PlainSlot],
+) -> Result<Listed<Listed<Out>>, NoMemory>
     ensures { IfOk result (λ rows. rows ≡ map (projected columns.now items.now) (rows_in slots.now)) }
 {
     let mut rows = Listed::new(alloc);

@@ -39,15 +39,29 @@ pub fn effect(alloc: Global, write: &Write, tables: &[PlainTable]) -> Result<Pla
 {
     match write {
         Write::CreateTable { name, schema } => {
-            placed(alloc, PlainTable::empty(alloc, name, schema.columns.as_slice())?, tables)
+            placed(
+                alloc,
+                PlainTable::empty(alloc, name, schema.columns.as_slice())?,
+                tables,
+            )
         }
-        Write::Insert { table, rows } => inserted(alloc, table_of(tables, table), rows.as_slice(), tables),
+        Write::Insert { table, rows } => inserted(
+            alloc,
+            table_of(tables, table),
+            rows.as_slice(),
+            tables,
+        ),
         _ => copied_tables(alloc, tables),
     }
 }
 
 /// Copies of the tables with rows put into one of them.
-fn inserted(alloc: Global, table: Option<&PlainTable>, rows: &[Row], tables: &[PlainTable]) -> Result<PlainTables, NoMemory>
+fn inserted(
+    alloc: Global,
+    table: Option<&PlainTable>,
+    rows: &[Row],
+    tables: &[PlainTable],
+) -> Result<PlainTables, NoMemory>
     ensures { IfOk result (λ after. after ≡ inserted (option_copied table.entry) rows.now tables.now) }
 {
     match table {

@@ -35,7 +35,11 @@ pub fn statement_refusal(statement: &Statement, tables: &[PlainTable]) -> Option
     match statement {
         Statement::Write(write) => write_refusal(write, tables),
         Statement::Select(select) => {
-            select_refusal(&select.table, table_of(tables, &select.table), select.items.as_slice())
+            select_refusal(
+                &select.table,
+                table_of(tables, &select.table),
+                select.items.as_slice(),
+            )
         }
         _ => None,
     }
@@ -46,12 +50,22 @@ pub fn room_refusal(statement: &Statement, tables: &[PlainTable]) -> Option<Refu
     ensures { result ≡ first_refusal (room_checks statement.now tables.now) }
 {
     match statement {
-        Statement::Write(Write::Insert { table, rows }) => full_refusal(table_of(tables, table), rows.len()),
+        Statement::Write(write) => write_room_refusal(write, tables),
         _ => None,
     }
 }
 
 /// The same of a write.
+pub fn write_room_refusal(write: &Write, tables: &[PlainTable]) -> Option<Refusal>
+    ensures { result ≡ first_refusal (room_checks (Statement.Write write.now) tables.now) }
+{
+    match write {
+        Write::Insert { table, rows } => full_refusal(table_of(tables, table), rows.len()),
+        _ => None,
+    }
+}
+
+/// The first refusal of what a write names and of its values.
 fn write_refusal(write: &Write, tables: &[PlainTable]) -> Option<Refusal>
     requires { IsCountedWrite write.now }
     ensures { result ≡ first_refusal (write_checks write.now tables.now) }
@@ -61,7 +75,11 @@ fn write_refusal(write: &Write, tables: &[PlainTable]) -> Option<Refusal>
             Some(refusal) => Some(refusal),
             None => catalog_refusal(tables),
         },
-        Write::Insert { table, rows } => insert_refusal(table, table_of(tables, table), rows.as_slice()),
+        Write::Insert { table, rows } => insert_refusal(
+            table,
+            table_of(tables, table),
+            rows.as_slice(),
+        ),
         _ => None,
     }
 }
@@ -114,7 +132,9 @@ fn full_refusal(table: Option<&PlainTable>, count: usize) -> Option<Refusal>
 {
     match table {
         None => None,
-        Some(table) => passes_limit(table.slots().len(), count).then_some(Refusal::TableFull { limit: ROW_LIMIT }),
+        Some(table) => passes_limit(table.slots().len(), count).then_some(Refusal::TableFull {
+            limit: ROW_LIMIT,
+        }),
     }
 }
 

@@ -146,7 +146,11 @@ pub fn table_of<'a>(tables: &'a [PlainTable], name: &Name) -> Option<&'a PlainTa
 }
 
 /// Copies of the tables with this one put in before the first whose name isn't below its own.
-pub fn placed(alloc: Global, table: PlainTable, tables: &[PlainTable]) -> Result<PlainTables, NoMemory>
+pub fn placed(
+    alloc: Global,
+    table: PlainTable,
+    tables: &[PlainTable],
+) -> Result<PlainTables, NoMemory>
     ensures { IfOk result (λ put. put ≡ placed table tables.now) }
 {
     let mut put = Listed::new(alloc);
@@ -164,7 +168,11 @@ pub fn placed(alloc: Global, table: PlainTable, tables: &[PlainTable]) -> Result
 }
 
 /// Copies of the tables with this one in place of the one of its name.
-pub fn replaced(alloc: Global, table: PlainTable, tables: &[PlainTable]) -> Result<PlainTables, NoMemory>
+pub fn replaced(
+    alloc: Global,
+    table: PlainTable,
+    tables: &[PlainTable],
+) -> Result<PlainTables, NoMemory>
     ensures { IfOk result (λ put. put ≡ replaced table tables.now) }
 {
     let mut put = Listed::new(alloc);
@@ -180,7 +188,11 @@ pub fn replaced(alloc: Global, table: PlainTable, tables: &[PlainTable]) -> Resu
 }
 
 /// Puts copies of tables at the end.
-pub fn push_tables(alloc: Global, put: &mut PlainTables, tables: &[PlainTable]) -> Result<(), NoMemory>
+pub fn push_tables(
+    alloc: Global,
+    put: &mut PlainTables,
+    tables: &[PlainTable],
+) -> Result<(), NoMemory>
     ensures { OnOk result (put.new ≡ put.old ++ tables.now) }
 {
     for table in tables {
