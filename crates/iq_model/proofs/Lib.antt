@@ -2,3 +2,4 @@ pub mod Replay
 pub mod Committed
 pub mod LineSteps
 pub mod LineRuns
+pub mod BuiltWrites

@@ -1,7 +1,10 @@
 -- The entries of a whole line of a script of one session, and how lines follow one another.
-use Rattle.std.proofs.Common.{◌≡◌, ◌≢◌, inl, inr, ℕ, ◌+◌, ◌≤◌, List, [], ◌∷◌, ◌++◌, Option, Some, None, map, refl, sym, ◌∙◌, ap, subst, append_assoc, arith}
+use Rattle.std.proofs.Common.{◌≡◌, ◌≢◌, inl, inr, ℕ, ◌+◌, ◌≤◌, List, [], ◌∷◌, ◌++◌, Option, Some, None, map, filter, if◌then◌else◌, refl, sym, ◌∙◌, ap, subst, append_assoc, arith}
+use Rattle.std.specs.List.{AllByRecursion}
 use Rattle.std.specs.Option.{option_or}
 use Rattle.iq_base.specs.declared.names.Name.{Name}
+use Rattle.iq_base.specs.declared.nodes.NodeSpec.{NodeSpec}
+use Rattle.iq_base.specs.declared.nodes.SessionSpec.{SessionSpec}
 use Rattle.iq_base.specs.declared.refusals.Refusal.{Refusal}
 use Rattle.iq_base.specs.declared.answers.Answer.TheVariants as answers
 use Rattle.iq_ast.specs.declared.statements.Statement.{Statement}
@@ -13,13 +16,15 @@ use Rattle.iq_history.specs.declared.entries.Entry.TheVariants as entries
 use Rattle.iq_model.specs.declared.scripts.Line.{Line}
 use Rattle.iq_model.specs.declared.scripts.Deed.{Deed}
 use Rattle.iq_model.specs.declared.scripts.Deed.TheVariants as deeds
+use Rattle.iq_model.specs.declared.scripts.Script.{Script}
+use Rattle.iq_model.specs.Scripts.{the_node, IsRunnableLine, IsRunnable}
 use Rattle.iq_model.specs.declared.replies.Reply.{Reply}
 use Rattle.iq_model.specs.declared.replies.Said.TheVariants as said
 use Rattle.iq_model.specs.Tables.{Database}
 use Rattle.iq_model.specs.Statements.{first_refusal, statement_checks, room_checks, names_of, created_by, effect, answer}
-use Rattle.iq_model.specs.State.{begun, locked, Run, Written, State, first_locked, first_later, not_held, lock_checks, committed, written_at}
-use Rattle.iq_model.specs.History.{IsOnTables, checks_to_lock, checks_of, begin_work, begin_run, takes_effect, change, replay, IsLegal, statement_said, write_said, replies}
-use Rattle.iq_model.specs.OneSession.{one, between, NoneLater, IsBetween, LeadsTo, RunsLine}
+use Rattle.iq_model.specs.State.{begun, locked, Run, Written, State, first_locked, first_later, not_held, lock_checks, committed, written_at, is_of, start}
+use Rattle.iq_model.specs.History.{DeedIs, NoneLeft, IsWhole, IsOnTables, checks_to_lock, checks_of, begin_work, begin_run, takes_effect, change, replay, IsLegal, statement_said, write_said, replies}
+use Rattle.iq_model.specs.OneSession.{one, between, NoneLater, IsBetween, LeadsTo, RunsLine, RefusesAtOnce}
 use Rattle.iq_model.proofs.Replay.{replay-append, IsLegal-append, replies-append}
 use Rattle.iq_model.proofs.LineSteps.{first_refusal-append, first_locked-alone, not_held-one, leads-nil, line_of, within, by_begin, by_lock, by_done, by_refused, by_end, by_commit}
 
@@ -124,4 +129,43 @@ leads-append s es es' rs rs' c c' db db' lines lines' first next =
           ∙ ap (λ (q : List Reply). q ++ replies (replay s es) es') first.gives
           ∙ ap (λ (q : List Reply). rs ++ q) next.gives;
       leaves = subst (IsBetween c' db' lines') (sym (replay-append s es es')) next.leaves;
+    }
+
+-- a line that is refused before it locks a name, whatever its statement
+pub runs-at_once : (line : Line) (cause : Refusal) (c : ℕ) (db : Database) → DeedIs line.deed (RefusesAtOnce cause db) → RunsLine line c db (entries.Begin 0 line.number c ∷ entries.Refused (Some 0) line.number cause ∷ []) (record { line = line.number; said = said.Refused cause }) c db
+runs-at_once line cause c db refuses = of_deed line.deed refl refuses
+  where
+    of_deed : (deed : Deed) → line.deed ≡ deed → DeedIs deed (RefusesAtOnce cause db) → RunsLine line c db (entries.Begin 0 line.number c ∷ entries.Refused (Some 0) line.number cause ∷ []) (record { line = line.number; said = said.Refused cause }) c db
+    of_deed (deeds.Statement statement) is at_once = runs-refused line statement cause c db is at_once.on_tables at_once.found
+    of_deed (deeds.Step step) is at_once = absurd at_once
+
+-- WHERE A SCRIPT STARTS AND ENDS
+
+-- the lines of the one session are all lines
+lines_of-all : (lines : List Line) → AllByRecursion IsRunnableLine lines → filter (is_of 0) lines ≡ lines
+lines_of-all [] each = refl
+lines_of-all (line ∷ lines) each =
+    ap (λ (session : Option ℕ). if is_of 0 (record line { session = session }) then line ∷ filter (is_of 0) lines else filter (is_of 0) lines) each.0.session
+    ∙ ap (λ (ls : List Line). line ∷ ls) (lines_of-all lines each.1)
+
+-- before the first entry the session stands before all lines
+pub IsBetween-start : (script : Script) (opening : Database) → IsRunnable script → IsBetween 0 opening script.lines (start script opening)
+IsBetween-start script opening runnable =
+    record {
+      older = [];
+      wrote = [];
+      position = 0;
+      is =
+        ap (λ (nodes : List NodeSpec). start (record script { nodes = nodes }) opening) runnable.nodes
+        ∙ ap (λ (sessions : List SessionSpec). start (record script { nodes = the_node ∷ []; sessions = sessions }) opening) runnable.sessions
+        ∙ ap (λ (lines : List Line). one 0 opening [] [] 0 (between lines)) (lines_of-all script.lines runnable.each);
+      none_later = tt;
+    }
+
+-- a history after which no line is left is whole
+pub IsWhole-leads : (script : Script) (opening : Database) (es : List Entry) (rs : List Reply) (c : ℕ) (db : Database) → LeadsTo (start script opening) es rs c db [] → IsWhole script opening es
+IsWhole-leads script opening es rs c db leads =
+    record {
+      legal = leads.legal;
+      whole = subst (λ (s : State). NoneLeft s.desks) (sym leads.leaves.is) (refl, tt);
     }
