@@ -1,1 +1,5 @@
 pub mod Replay
+pub mod Committed
+pub mod LineSteps
+pub mod LineRuns
+pub mod BuiltWrites

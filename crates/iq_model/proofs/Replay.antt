@@ -1,5 +1,5 @@
 -- Histories that grow at their end.
-use Rattle.std.proofs.Common.{◌≡◌, ℕ, List, [], ◌∷◌, ◌++◌, refl, sym, ◌∙◌, ap, append_assoc, rules, arith}
+use Rattle.std.proofs.Common.{◌≡◌, List, [], ◌∷◌, ◌++◌, refl, sym, ◌∙◌, ap, append_assoc}
 use Rattle.iq_history.specs.declared.entries.Entry.{Entry}
 use Rattle.iq_model.specs.declared.replies.Reply.{Reply}
 use Rattle.iq_model.specs.State.{State}
@@ -24,3 +24,19 @@ replies-snoc s [] e = append_nil (entry_replies s e)
     append_nil (x ∷ xs) = ap (λ ys. x ∷ ys) (append_nil xs)
 replies-snoc s (x ∷ es) e =
     ap (λ rs. entry_replies s x ++ rs) (replies-snoc (change s x) es e) ∙ sym (append_assoc (entry_replies s x) _ _)
+
+-- the state after more entries
+pub replay-append : (s : State) (es fs : List Entry) → replay s (es ++ fs) ≡ replay (replay s es) fs
+replay-append s [] fs = refl
+replay-append s (x ∷ es) fs = replay-append (change s x) es fs
+
+-- a legal history with more entries that are legal after it
+pub IsLegal-append : (s : State) (es fs : List Entry) → IsLegal s es → IsLegal (replay s es) fs → IsLegal s (es ++ fs)
+IsLegal-append s [] fs legal more = more
+IsLegal-append s (x ∷ es) fs legal more = (legal.0, IsLegal-append (change s x) es fs legal.1 more)
+
+-- the replies with those of more entries
+pub replies-append : (s : State) (es fs : List Entry) → replies s (es ++ fs) ≡ replies s es ++ replies (replay s es) fs
+replies-append s [] fs = refl
+replies-append s (x ∷ es) fs =
+    ap (λ rs. entry_replies s x ++ rs) (replies-append (change s x) es fs) ∙ sym (append_assoc (entry_replies s x) _ _)

@@ -1,9 +1,7 @@
 -- Legal histories: which entry is possible in a state, what it changes, and which replies a history gives.
-use Rattle.std.specs.Prelude.{◌≡◌, ◌≢◌, ◌⊎◌, ℕ, ◌+◌, Bool, true, false, List, [], ◌∷◌, ◌++◌, Option, Some, None, fold, drop, length, IsSomeAnd}
+use Rattle.std.specs.Prelude.{◌≡◌, ◌≢◌, ◌⊎◌, ℕ, ◌+◌, List, [], ◌∷◌, ◌++◌, Option, Some, None, fold, drop, length, IsSomeAnd}
 use Rattle.std.specs.List.{slice_get}
 use Rattle.iq_base.specs.declared.names.Name.{Name}
-use Rattle.iq_base.specs.declared.nodes.NodeKind.{NodeKind}
-use Rattle.iq_base.specs.declared.nodes.NodeKind.TheVariants as node_kinds
 use Rattle.iq_base.specs.declared.refusals.Refusal.{Refusal}
 use Rattle.iq_base.specs.declared.refusals.Refusal.TheVariants as refusals
 use Rattle.iq_base.specs.declared.answers.Answer.TheVariants as answers
@@ -22,7 +20,7 @@ use Rattle.iq_model.specs.declared.replies.Said.{Said}
 use Rattle.iq_model.specs.declared.replies.Said.TheVariants as said
 use Rattle.iq_model.specs.Tables.{Database}
 use Rattle.iq_model.specs.Statements.{Check, first_refusal, statement_checks, room_checks, tables_after, created_by, answer}
-use Rattle.iq_model.specs.State.{Stage, fresh, begun, locked, done, Work, Run, Standing, idle, lost, running, Desk, NodeState, State, Written, database_of, position_of, not_held, locks, lock_checks, written_names, committed, written_at, changed_at, with_desk, moved_to, with_commit, start}
+use Rattle.iq_model.specs.State.{Stage, fresh, begun, locked, done, Work, Run, Standing, idle, lost, running, Desk, State, database_of, position_of, not_held, locks, lock_checks, committed, changed_at, with_desk, moved_to, with_commit, start}
 
 -- WHAT AN ENTRY ASKS
 

@@ -3,3 +3,5 @@ pub mod Tables
 pub mod Statements
 pub mod State
 pub mod History
+pub mod Plain
+pub mod OneSession

@@ -1,7 +1,7 @@
 -- The replayed state: what the entries of a history leave, for any number of nodes and sessions.
-use Rattle.std.specs.Prelude.{◌≡◌, ℕ, ◌+◌, ◌-◌, ◌<◌, Bool, true, false, zero, suc, List, [], ◌∷◌, ◌++◌, Option, Some, None, nat_eq, nat_lt, map, filter, find, fold, if◌then◌else◌, unwrap_or}
-use Rattle.std.specs.List.{slice_get, list_any, filter_map}
-use Rattle.std.specs.Option.{option_or, option_map}
+use Rattle.std.specs.Prelude.{ℕ, ◌+◌, Bool, true, false, zero, suc, List, [], ◌∷◌, ◌++◌, Option, Some, None, nat_eq, nat_lt, map, filter, find, fold, if◌then◌else◌, unwrap_or}
+use Rattle.std.specs.List.{slice_get, list_any}
+use Rattle.std.specs.Option.{option_or}
 use Rattle.iq_base.specs.declared.names.Name.{Name}
 use Rattle.iq_base.specs.declared.nodes.NodeKind.{NodeKind}
 use Rattle.iq_base.specs.declared.nodes.NodeKind.TheVariants as node_kinds
@@ -13,10 +13,8 @@ use Rattle.iq_base.specs.Locks.{catalog_name}
 use Rattle.iq_ast.specs.declared.statements.Statement.{Statement}
 use Rattle.iq_ast.specs.declared.statements.Statement.TheVariants as statements
 use Rattle.iq_model.specs.declared.scripts.Line.{Line}
-use Rattle.iq_model.specs.declared.scripts.Deed.{Deed}
-use Rattle.iq_model.specs.declared.scripts.Deed.TheVariants as deeds
 use Rattle.iq_model.specs.declared.scripts.Script.{Script}
-use Rattle.iq_model.specs.Tables.{Database, Table, same_name, table_of, as_seen}
+use Rattle.iq_model.specs.Tables.{Database, same_name, table_of, as_seen}
 use Rattle.iq_model.specs.Statements.{Check, names_of}
 
 -- how far the line under way of a session has come: no entry of it yet, or the last one

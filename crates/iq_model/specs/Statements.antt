@@ -1,5 +1,5 @@
 -- What the statements on tables mean over plain tables: the first refusal, the answer of a query, the effect of a write.
-use Rattle.std.specs.Prelude.{◌≡◌, ℕ, ℤ, pos, negsuc, ◌+◌, Bool, true, false, List, [], ◌∷◌, ◌++◌, Option, Some, None, nat_lt, nat_le, nat_eq, map, length, if◌then◌else◌, is_none, is_some}
+use Rattle.std.specs.Prelude.{ℕ, ℤ, pos, negsuc, ◌+◌, Bool, true, false, List, [], ◌∷◌, Option, Some, None, nat_lt, nat_le, nat_eq, map, length, if◌then◌else◌, is_none, is_some}
 use Rattle.std.specs.List.{position, slice_get}
 use Rattle.std.specs.Option.{option_or}
 use Rattle.iq_base.specs.declared.names.Name.{Name}
@@ -14,7 +14,7 @@ use Rattle.iq_base.specs.declared.refusals.Refusal.{Refusal}
 use Rattle.iq_base.specs.declared.refusals.Refusal.TheVariants as refusals
 use Rattle.iq_base.specs.declared.refusals.FieldCause.{FieldCause}
 use Rattle.iq_base.specs.declared.refusals.FieldCause.TheVariants as causes
-use Rattle.iq_base.specs.Locks.{locks_of, catalog_name}
+use Rattle.iq_base.specs.Locks.{locks_of}
 use Rattle.iq_ast.specs.declared.statements.Statement.{Statement}
 use Rattle.iq_ast.specs.declared.statements.Statement.TheVariants as statements
 use Rattle.iq_ast.specs.declared.statements.Write.{Write}
