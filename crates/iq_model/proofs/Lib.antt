@@ -1,5 +1,1 @@
 pub mod Replay
-pub mod Committed
-pub mod LineSteps
-pub mod LineRuns
-pub mod BuiltWrites

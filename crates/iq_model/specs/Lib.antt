@@ -3,5 +3,3 @@ pub mod Tables
 pub mod Statements
 pub mod State
 pub mod History
-pub mod Plain
-pub mod OneSession

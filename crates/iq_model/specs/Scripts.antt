@@ -4,9 +4,12 @@ use Rattle.std.specs.List.{AllByRecursion}
 use Rattle.iq_base.specs.declared.nodes.NodeKind.TheVariants.{Coordinator}
 use Rattle.iq_base.specs.declared.nodes.NodeSpec.{NodeSpec}
 use Rattle.iq_base.specs.declared.nodes.SessionSpec.{SessionSpec}
+use Rattle.iq_ast.specs.declared.statements.Statement.{Statement}
+use Rattle.iq_ast.specs.declared.statements.Statement.TheVariants as statements
+use Rattle.iq_ast.specs.declared.statements.Write.TheVariants as writes
 use Rattle.iq_ast.specs.Built.{IsBuilt}
 use Rattle.iq_model.specs.declared.scripts.Deed.{Deed}
-use Rattle.iq_model.specs.declared.scripts.Deed.TheVariants.{Statement, Step}
+use Rattle.iq_model.specs.declared.scripts.Deed.TheVariants as deeds
 use Rattle.iq_model.specs.declared.scripts.Line.{Line}
 use Rattle.iq_model.specs.declared.scripts.Script.{Script}
 
@@ -20,13 +23,23 @@ the_session lines = record { name = 115 ∷ []; node = 0; lines = lines }
 
 -- a deed that is a statement of the grammar
 abbrev pub IsBuiltDeed : Deed → Type 0
-IsBuiltDeed (Statement statement) = IsBuilt statement
-IsBuiltDeed (Step step) = ⊥
+IsBuiltDeed (deeds.Statement statement) = IsBuilt statement
+IsBuiltDeed (deeds.Step step) = ⊥
+
+-- an INSERT has at most 16,777,216 tuples
+abbrev pub HasFewTuples : Statement → Type 0
+HasFewTuples (statements.Write (writes.Insert table rows)) = length rows ≤ 16777216
+HasFewTuples _ = ⊤
+
+abbrev pub HasFewDeedTuples : Deed → Type 0
+HasFewDeedTuples (deeds.Statement statement) = HasFewTuples statement
+HasFewDeedTuples (deeds.Step step) = ⊤
 
 -- a line of the first session that is a statement of the grammar
 pub record IsRunnableLine (line : Line) : Type 0 where
   pub session : line.session ≡ Some 0
   pub deed : IsBuiltDeed line.deed
+  pub tuples : HasFewDeedTuples line.deed
 
 -- the numbers of the lines ascend, each above low
 abbrev pub Ascend : ℕ → List Line → Type 0

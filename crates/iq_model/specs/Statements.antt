@@ -130,12 +130,16 @@ abbrev pub select_checks : Name → Option Table → List Item → List Check
 select_checks name None items = record { order = 5; found = Some (refusals.NoTable name) } ∷ []
 select_checks name (Some t) items = record { order = 5; found = first_no_column t.columns items } ∷ []
 
--- the tests of what is named, and of the values, in the order in which they are made
-abbrev pub write_checks : Write → Database → List Check
-write_checks (writes.CreateTable name schema) db =
+-- the tests of the name that a CREATE TABLE names, and of the room for one more table
+abbrev pub create_checks : Name → Database → List Check
+create_checks name db =
     record { order = 5; found = found_if (is_some (table_of name db)) (refusals.TableExists name) }
     ∷ record { order = 5; found = found_if (nat_le most_tables (length db)) refusals.CatalogFull }
     ∷ []
+
+-- the tests of what is named, and of the values, in the order in which they are made
+abbrev pub write_checks : Write → Database → List Check
+write_checks (writes.CreateTable name schema) db = create_checks name db
 write_checks (writes.Insert name rows) db = insert_checks name (table_of name db) rows
 write_checks _ db = []
 

@@ -6,19 +6,13 @@
 #![tactic(auto)]
 
 mod checks;
-mod plain_answers;
-mod plain_effects;
-mod plain_refusals;
-mod plain_runs;
-mod plain_tables;
+mod locking;
+mod projection;
 mod replies;
 mod scripts;
 
 pub use checks::{column_place, first_bad_row, first_no_column};
-pub use plain_answers::{answer, out_of, projected_row};
-pub use plain_effects::{effect, names_of};
-pub use plain_refusals::{MOST_TABLES, ROW_LIMIT, refusal_of, room_refusal, statement_refusal};
-pub use plain_runs::{PlainRun, plain_replies};
-pub use plain_tables::{PlainSlot, PlainTable, PlainTables, placed, replaced, table_of};
+pub use locking::names_of;
+pub use projection::{out_of, projected_row};
 pub use replies::{Reply, Said};
 pub use scripts::{Deed, Line, Script, Step};

@@ -17,7 +17,7 @@ use Rattle.iq_model.specs.State.{State, Desk, Run, Standing, idle, lost, running
 use Rattle.iq_model.specs.declared.scripts.Line.{Line}
 use Rattle.iq_model.specs.History.{IsPossible, IsLegal, DeskIs, IsOpen, IsRunning, CanTake, CanBegin, change, replay}
 use Rattle.iq_model.proofs.Replay.{replay-snoc, IsLegal-snoc, replies-snoc}
-use Rattle.iq_plex.specs.declared.tables.Stored.{Stored}
+use Rattle.iq_plex.specs.declared.stored.Stored.{Stored}
 use Rattle.iq_plex.specs.Plex.{IsOpened, CanBeginLine, AsksBegin, PlexState, state_of, replies_of, IsNext, CanLockLine, CanRefuseLine, CanTakeLine, HoldsLine, AsksHeld, AsksTake, IsGranted, desk_of, IsAt, OfSeen}
 use Rattle.iq_plex.specs.Sound.{IsSound, only_state, seen_by}
 use Rattle.iq_plex.specs.Stored.{StandFor}

@@ -6,5 +6,6 @@ pub mod Under
 pub mod Ends
 pub mod Start
 pub mod Places
+pub mod LookUps
 pub mod Keeping
 pub mod Walking

@@ -7,7 +7,7 @@ use Rattle.iq_model.specs.State.{start}
 use Rattle.iq_model.specs.History.{IsLegal, replay}
 use Rattle.iq_plex.specs.Plex.{names_of_nodes, names_of_sessions}
 use Rattle.iq_plex.specs.Sound.{IsSound}
-use Rattle.iq_plex.specs.declared.tables.Stored.{Stored}
+use Rattle.iq_plex.specs.declared.stored.Stored.{Stored}
 use Rattle.iq_plex.specs.Stored.{StandFor}
 
 pub record IsKept (script : Script) (history : HistoryState) (tables : List Stored) (latest : ℕ) : Type 0 where

