@@ -6,6 +6,7 @@
 #![tactic(auto)]
 
 mod calls;
+mod device;
 mod failed;
 mod gate;
 mod memory_sink;
@@ -14,10 +15,12 @@ mod reading;
 mod sink;
 mod source;
 mod std_streams;
+mod sure_device;
 #[cfg(test)]
 mod tests;
 mod writing;
 
+pub use device::{Block, Device};
 pub use failed::Failed;
 pub use gate::{Gate, OpenGate};
 pub use memory_sink::{MemorySink, SureSink};
@@ -26,4 +29,5 @@ pub use reading::{ReadFault, read_whole};
 pub use sink::Sink;
 pub use source::Source;
 pub use std_streams::{StdSink, StdSource};
+pub use sure_device::SureDevice;
 pub use writing::{WriteFault, write_all};
