@@ -1,16 +1,20 @@
 -- What one call of a device did, as its caller sees it. A device is seen by five members: its blocks where it tells them, its
 -- count of faults, whether it tells what a stop may leave, the present moment, and what a stop at a moment may have left.
-use Rattle.std.specs.Prelude.{◌≡◌, ◌≢◌, ◌⊎◌, ℕ, ◌+◌, ◌-◌, ◌<◌, ◌≤◌, Bool, IsTrue, List, ◌++◌, length, take, Option, Some, Result, OnOk, OnErr, IfOk, replicate, slice_get, slice_set}
+use Rattle.std.specs.Prelude.{◌≡◌, ◌≢◌, ◌⊎◌, ℕ, ◌+◌, ◌-◌, ◌<◌, ◌≤◌, Bool, IsTrue, List, [], ◌++◌, length, take, Option, Some, Result, OnOk, OnErr, IfOk, replicate, slice_index_or, slice_set}
 use Rattle.iq_outside.specs.Faults.{CountsFaults}
 
 -- a block of zeros
 unfoldable pub zero_block : List ℕ
 zero_block = replicate 1024 0
 
+-- the block in a place, or no bytes past the end
+abbrev pub block_of : List (List ℕ) → ℕ → List ℕ
+block_of blocks i = slice_index_or blocks i []
+
 -- two lists of blocks differ at most in this place
 pub record SameBut (at : ℕ) (old new : List (List ℕ)) : Type 0 where
   pub size : length new ≡ length old
-  pub others : (i : ℕ) → i ≢ at → slice_get new i ≡ slice_get old i
+  pub others : (i : ℕ) → i ≢ at → block_of new i ≡ block_of old i
 
 -- a count: at Ok it is the number of the blocks, and they stay
 pub record Counted {E : Type 0} (result : Result ℕ E) (old new : Option (List (List ℕ))) : Type 0 where
@@ -19,7 +23,7 @@ pub record Counted {E : Type 0} (result : Result ℕ E) (old new : Option (List 
 
 -- a read: at Ok the buffer is the block in this place, and all stay
 pub record Fetched {T E : Type 0} (at : ℕ) (into : List ℕ) (result : Result T E) (old new : Option (List (List ℕ))) : Type 0 where
-  pub told : (blocks : List (List ℕ)) → old ≡ Some blocks → OnOk result (slice_get blocks at ≡ Some into)
+  pub told : (blocks : List (List ℕ)) → old ≡ Some blocks → OnOk result (into ≡ block_of blocks at)
   pub unchanged : new ≡ old
 
 -- a write: at Ok this block is in its place, at Failed any bytes may be there, and the others stay

@@ -8,10 +8,14 @@
 mod calls;
 mod device;
 mod failed;
+mod fuse_device;
 mod gate;
+mod memory_device;
 mod memory_sink;
 mod memory_source;
+mod pick;
 mod reading;
+mod recorded;
 mod sink;
 mod source;
 mod std_streams;
@@ -22,9 +26,12 @@ mod writing;
 
 pub use device::{Block, Device};
 pub use failed::Failed;
+pub use fuse_device::FuseDevice;
 pub use gate::{Gate, OpenGate};
+pub use memory_device::MemoryDevice;
 pub use memory_sink::{MemorySink, SureSink};
 pub use memory_source::{MemorySource, SureSource};
+pub use pick::Pick;
 pub use reading::{ReadFault, read_whole};
 pub use sink::Sink;
 pub use source::Source;
