@@ -79,10 +79,10 @@ length_added change old new adds = ap length adds.changes ∙ length-append old.
 pub adds_keeps : {D : Type 0} (kept : D → Recording) (change : Change) (old new : D) → Adds change (kept old) (kept new)
     → KeepsPast (λ (d : D). true) (λ (d : D). length (kept d).changes) (λ (d : D). recorded_image (kept d)) old new
 adds_keeps kept change old new adds = record {
-    same = refl;
-    later = omega (arith, length_added change (kept old) (kept new) adds);
-    keeps = image_keeps change (kept old) (kept new) adds;
-    no_more = image_no_more change (kept old) (kept new) adds
+  same = refl;
+  later = omega (arith, length_added change (kept old) (kept new) adds);
+  keeps = image_keeps change (kept old) (kept new) adds;
+  no_more = image_no_more change (kept old) (kept new) adds;
 }
 
 -- it raises the clock
@@ -94,10 +94,10 @@ adds_raises kept change old new adds = omega (arith, length_added change (kept o
 pub unmoved_keeps : {D : Type 0} (kept : D → Recording) (old new : D) → kept new ≡ kept old
     → KeepsPast (λ (d : D). true) (λ (d : D). length (kept d).changes) (λ (d : D). recorded_image (kept d)) old new
 unmoved_keeps kept old new same = record {
-    same = refl;
-    later = omega (arith, ap (λ (r : Recording). length r.changes) same);
-    keeps = λ t b early image. rw same image;
-    no_more = λ t b early image. rw (← same) image
+  same = refl;
+  later = omega (arith, ap (λ (r : Recording). length r.changes) same);
+  keeps = λ t b early image. rw same image;
+  no_more = λ t b early image. rw (← same) image;
 }
 
 pub unmoved_adds_none : {D : Type 0} (kept : D → Recording) (old new : D) → kept new ≡ kept old
@@ -120,12 +120,12 @@ torn_before blocks b w at block within torn =
     record {
       size = length-set b at (block_of blocks at) ∙ size;
       others = λ i free. elim (cases_order i at) [
-        inl here ↦ rw here (get_or-set_same b at (block_of blocks at) [] (omega (arith, within, size)))
-      | inr apart ↦ (
-          let other : i ≢ at = omega (arith, apart) in
-          let passed : list_any (nat_eq i) (at ∷ w) ≡ false = rw (ne_eqb i at other) free in
-          get_or-set_other b at i (block_of blocks at) [] other ∙ torn.others i passed ∙ get_or-set_other blocks at i block [] other)
-      ]
+        | inl here ↦ rw here (get_or-set_same b at (block_of blocks at) [] (omega (arith, within, size)))
+        | inr apart ↦ (
+            let other : i ≢ at = omega (arith, apart) in
+            let passed : list_any (nat_eq i) (at ∷ w) ≡ false = rw (ne_eqb i at other) free in
+            get_or-set_other b at i (block_of blocks at) [] other ∙ torn.others i passed ∙ get_or-set_other blocks at i block [] other)
+      ];
     }
 
 pub write_adds_at : {D : Type 0} (kept : D → Recording) (at : ℕ) (block : List ℕ) (old new : D)
@@ -135,19 +135,20 @@ pub write_adds_at : {D : Type 0} (kept : D → Recording) (at : ℕ) (block : Li
 write_adds_at kept at block old new adds set within t b since until image =
     let change = Wrote at (block_of (kept old).blocks at) in
     elim (cases_lt (length (kept old).changes) t) [
-      inl after ↦ (
-        let late : length (kept new).changes ≤ t = omega (arith, after, length_added change (kept old) (kept new) adds) in
-        let waits : waiting (kept new).changes ≡ at ∷ waiting (kept old).changes
+      | inl after ↦ (
+          let late : length (kept new).changes ≤ t = omega (arith, after, length_added change (kept old) (kept new) adds) in
+          let waits : waiting (kept new).changes ≡ at ∷ waiting (kept old).changes
           = ap waiting adds.changes ∙ fold-append waiting_after [] (kept old).changes (change ∷ []) in
-        let torn : IsTorn (slice_set (kept old).blocks at block) (at ∷ waiting (kept old).changes) b
-          = IsTorn-along _ _ _ _ b set waits (torn_now (kept new) t b late image) in
-        (slice_set b at (block_of (kept old).blocks at),
-         image_now (kept old) (length (kept old).changes) _ (omega arith) (torn_before (kept old).blocks b (waiting (kept old).changes) at block within torn),
-         SameBut-sym at _ _ (SameBut-set at b (block_of (kept old).blocks at))))
-    | inr early ↦ (
-        let now : t ≡ length (kept old).changes = omega (arith, since, early) in
-        let before : recorded_image (kept old) t b = image_no_more change (kept old) (kept new) adds t b early image in
-        (b, rw (← now) before, SameBut-refl at b))
+          let torn : IsTorn (slice_set (kept old).blocks at block) (at ∷ waiting (kept old).changes) b
+          = IsTorn-along _ _ _ _ b set waits (torn_now (kept new) t b late image) in (
+            slice_set b at (block_of (kept old).blocks at),
+            image_now (kept old) (length (kept old).changes) _ (omega arith) (torn_before (kept old).blocks b (waiting (kept old).changes) at block within torn),
+            SameBut-sym at _ _ (SameBut-set at b (block_of (kept old).blocks at)),
+          ))
+      | inr early ↦ (
+          let now : t ≡ length (kept old).changes = omega (arith, since, early) in
+          let before : recorded_image (kept old) t b = image_no_more change (kept old) (kept new) adds t b early image in
+          (b, rw (← now) before, SameBut-refl at b))
     ]
 
 -- after a sync nothing waits
@@ -158,20 +159,20 @@ pub sync_adds_none : {D : Type 0} (kept : D → Recording) (old new : D) → Add
     → AddsNone (λ (d : D). length (kept d).changes) (λ (d : D). recorded_image (kept d)) old new
 sync_adds_none kept old new adds t b since until image =
     elim (cases_lt (length (kept old).changes) t) [
-      inl after ↦ (
-        let late : length (kept new).changes ≤ t = omega (arith, after, length_added Synced (kept old) (kept new) adds) in
-        let torn : IsTorn (kept old).blocks [] b
+      | inl after ↦ (
+          let late : length (kept new).changes ≤ t = omega (arith, after, length_added Synced (kept old) (kept new) adds) in
+          let torn : IsTorn (kept old).blocks [] b
           = IsTorn-along _ _ _ _ b adds.undone (synced_waits (kept old) (kept new) adds) (torn_now (kept new) t b late image) in
-        image_now (kept old) (length (kept old).changes) b (omega arith) (record { size = torn.size; others = λ i free. torn.others i refl }))
-    | inr early ↦ (
-        let now : t ≡ length (kept old).changes = omega (arith, since, early) in
-        let before : recorded_image (kept old) t b = image_no_more Synced (kept old) (kept new) adds t b early image in
-        rw (← now) before)
+          image_now (kept old) (length (kept old).changes) b (omega arith) (record { size = torn.size; others = λ i free. torn.others i refl }))
+      | inr early ↦ (
+          let now : t ≡ length (kept old).changes = omega (arith, since, early) in
+          let before : recorded_image (kept old) t b = image_no_more Synced (kept old) (kept new) adds t b early image in
+          rw (← now) before)
     ]
 
 pub sync_settles : {D : Type 0} (kept : D → Recording) (old new : D) → Adds Synced (kept old) (kept new)
     → IsSettled (λ (d : D). Some (kept d).blocks) (λ (d : D). length (kept d).changes) (λ (d : D). recorded_image (kept d)) new
 sync_settles kept old new adds b image =
     let torn : IsTorn (kept new).blocks [] b
-      = IsTorn-along _ _ _ _ b refl (synced_waits (kept old) (kept new) adds) (torn_now (kept new) (length (kept new).changes) b (omega arith) image) in
+    = IsTorn-along _ _ _ _ b refl (synced_waits (kept old) (kept new) adds) (torn_now (kept new) (length (kept new).changes) b (omega arith) image) in
     ap Some (sym (ext_get_or [] b (kept new).blocks torn.size (λ i within. torn.others i refl)))

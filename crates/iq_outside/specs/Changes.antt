@@ -51,8 +51,8 @@ pub record Adds (change : Change) (old new : Recording) : Type 0 where
 -- a stop may leave all as it is read
 pub image_read : (now : Recording) → recorded_image now (length now.changes) now.blocks
 image_read now = record {
-    size = ap (λ (cs : List Change). length (undone_all cs now.blocks)) (sym (drop-length now.changes));
-    others = λ i free. ap (λ (cs : List Change). block_of (undone_all cs now.blocks) i) (sym (drop-length now.changes))
+  size = ap (λ (cs : List Change). length (undone_all cs now.blocks)) (sym (drop-length now.changes));
+  others = λ i free. ap (λ (cs : List Change). block_of (undone_all cs now.blocks) i) (sym (drop-length now.changes));
 }
 
 pub image_told : (now : Recording) (all : List (List ℕ)) → Some now.blocks ≡ Some all → recorded_image now (length now.changes) all

@@ -56,7 +56,7 @@ AddsNone clock image old new = (t : ℕ) (b : List (List ℕ)) → clock old ≤
 -- what a stop meanwhile may leave differs in one place from what a stop before could have left
 abbrev pub AddsAt : {D : Type 0} → ℕ → (D → ℕ) → (D → ℕ → List (List ℕ) → Type 0) → D → D → Type 0
 AddsAt at clock image old new = (t : ℕ) (b : List (List ℕ)) → clock old ≤ t → t ≤ clock new → image new t b
-  → (c : List (List ℕ)) × image old (clock old) c × SameBut at c b
+    → (c : List (List ℕ)) × image old (clock old) c × SameBut at c b
 
 -- a call that changes something raises the clock, or fails and changes no block
 pub record Raises {D T E : Type 0} (result : Result T E) (blocks : D → Option (List (List ℕ))) (clock : D → ℕ) (old new : D) : Type 0 where
@@ -69,7 +69,7 @@ IsSettled blocks clock image now = (b : List (List ℕ)) → image now (clock no
 
 -- a call of count
 pub record HasCounted {D E : Type 0} (blocks : D → Option (List (List ℕ))) (faults : D → ℕ) (tells : D → Bool) (clock : D → ℕ)
-  (image : D → ℕ → List (List ℕ) → Type 0) (result : Result ℕ E) (old new : D) : Type 0 where
+    (image : D → ℕ → List (List ℕ) → Type 0) (result : Result ℕ E) (old new : D) : Type 0 where
   pub content : Counted result (blocks old) (blocks new)
   pub counts : CountsFaults result (faults old) (faults new)
   pub past : KeepsPast tells clock image old new
@@ -77,7 +77,7 @@ pub record HasCounted {D E : Type 0} (blocks : D → Option (List (List ℕ))) (
 
 -- a call of read
 pub record HasRead {D T E : Type 0} (blocks : D → Option (List (List ℕ))) (faults : D → ℕ) (tells : D → Bool) (clock : D → ℕ)
-  (image : D → ℕ → List (List ℕ) → Type 0) (at : ℕ) (into : List ℕ) (result : Result T E) (old new : D) : Type 0 where
+    (image : D → ℕ → List (List ℕ) → Type 0) (at : ℕ) (into : List ℕ) (result : Result T E) (old new : D) : Type 0 where
   pub content : Fetched at into result (blocks old) (blocks new)
   pub counts : CountsFaults result (faults old) (faults new)
   pub past : KeepsPast tells clock image old new
@@ -85,7 +85,7 @@ pub record HasRead {D T E : Type 0} (blocks : D → Option (List (List ℕ))) (f
 
 -- a call of write
 pub record HasWritten {D T E : Type 0} (blocks : D → Option (List (List ℕ))) (faults : D → ℕ) (tells : D → Bool) (clock : D → ℕ)
-  (image : D → ℕ → List (List ℕ) → Type 0) (at : ℕ) (block : List ℕ) (result : Result T E) (old new : D) : Type 0 where
+    (image : D → ℕ → List (List ℕ) → Type 0) (at : ℕ) (block : List ℕ) (result : Result T E) (old new : D) : Type 0 where
   pub content : Stored at block result (blocks old) (blocks new)
   pub counts : CountsFaults result (faults old) (faults new)
   pub past : KeepsPast tells clock image old new
@@ -94,7 +94,7 @@ pub record HasWritten {D T E : Type 0} (blocks : D → Option (List (List ℕ)))
 
 -- a call of resize; nothing is said of what a stop within it leaves
 pub record HasResized {D T E : Type 0} (blocks : D → Option (List (List ℕ))) (faults : D → ℕ) (tells : D → Bool) (clock : D → ℕ)
-  (image : D → ℕ → List (List ℕ) → Type 0) (n : ℕ) (result : Result T E) (old new : D) : Type 0 where
+    (image : D → ℕ → List (List ℕ) → Type 0) (n : ℕ) (result : Result T E) (old new : D) : Type 0 where
   pub content : Cut n result (blocks old) (blocks new)
   pub counts : CountsFaults result (faults old) (faults new)
   pub past : KeepsPast tells clock image old new
@@ -102,7 +102,7 @@ pub record HasResized {D T E : Type 0} (blocks : D → Option (List (List ℕ)))
 
 -- a call of sync: at Ok nothing waits any more
 pub record HasSynced {D T E : Type 0} (blocks : D → Option (List (List ℕ))) (faults : D → ℕ) (tells : D → Bool) (clock : D → ℕ)
-  (image : D → ℕ → List (List ℕ) → Type 0) (result : Result T E) (old new : D) : Type 0 where
+    (image : D → ℕ → List (List ℕ) → Type 0) (result : Result T E) (old new : D) : Type 0 where
   pub content : blocks new ≡ blocks old
   pub counts : CountsFaults result (faults old) (faults new)
   pub past : KeepsPast tells clock image old new

@@ -8,6 +8,7 @@
 mod calls;
 mod device;
 mod failed;
+mod file_device;
 mod fuse_device;
 mod gate;
 mod memory_device;
@@ -26,6 +27,7 @@ mod writing;
 
 pub use device::{Block, Device};
 pub use failed::Failed;
+pub use file_device::FileDevice;
 pub use fuse_device::FuseDevice;
 pub use gate::{Gate, OpenGate};
 pub use memory_device::MemoryDevice;

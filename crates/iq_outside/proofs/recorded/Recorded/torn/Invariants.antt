@@ -7,7 +7,7 @@ abbrev pub invariant-undoing : goal.invariant-undoing
 invariant-undoing l = record {
   few : vec_len l.blocks < 2 ^ 32;
   torn : IsTorn l.fn.self.blocks (waiting l.fn.self.changes) l.blocks.items;
-  waits : (i : ℕ) → list_any (nat_eq i) (waiting l.fn.self.changes) ≡ false → list_any (nat_eq i) (waiting l.changes.items) ≡ false
+  waits : (i : ℕ) → list_any (nat_eq i) (waiting l.fn.self.changes) ≡ false → list_any (nat_eq i) (waiting l.changes.items) ≡ false;
 }
 
 abbrev pub decreases-undoing : goal.decreases-undoing

@@ -5,7 +5,7 @@ use Rattle.iq_outside.proofs.recorded.Recorded.write.Goals as goal
 
 pub returns-clause-adds : goal.returns-clause-adds
 returns-clause-adds c = rw (← c.self.view_is) record {
-    changes = c.in_ok-push.ensures.items
+  changes = c.in_ok-push.ensures.items
       ∙ ap (λ (x : List ℕ). c.self.inside.changes.items ++ Wrote c.args.at x ∷ []) (rw (← c.self.view_is) at c.block-old.ensures);
-    undone = undone-set _ _ _
+  undone = undone-set _ _ _;
 }
