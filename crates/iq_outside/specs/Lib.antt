@@ -1,0 +1,8 @@
+pub mod Calls
+pub mod Changes
+pub mod Devices
+pub mod Picks
+pub mod Records
+pub mod Faults
+pub mod Streams
+pub mod Whole

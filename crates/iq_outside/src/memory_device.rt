@@ -1,0 +1,132 @@
+//! Blocks in memory that fail where they are told to, and tell what a stop may leave.
+ghost use Rattle.std.specs.Prelude.{◌≡◌, ◌<◌, ◌^◌, [], ℕ, List, Some, length, vec_len, ◌≤◌, is_err, IsTrue, IsErr, OnOk, OnErr};
+ghost use Rattle.iq_outside.specs.Calls.{plan_of, is_listed, after_fault};
+ghost use Rattle.iq_outside.specs.Devices.{HasCounted, HasRead, HasWritten, HasResized, HasSynced};
+ghost use Rattle.iq_outside.specs.Records.{taped_blocks, taped_faults, taped_tells, taped_clock, taped_image};
+ghost use Rattle.iq_outside.specs.Changes.{image_told};
+
+use crate::calls::Calls;
+use crate::recorded::Recorded;
+use crate::{Block, Device, Failed};
+use std::alloc::AllocError;
+use std::marker::Model;
+
+/// Blocks in memory, with a record of each change. It fails at the calls that were listed, of `count`, `resize`, `read`,
+/// `write` and `sync` together, and where `resize` or the record finds no memory. A failed call changes no block.
+#[derive(Debug, Drop)]
+pub struct MemoryDevice {
+    kept: Recorded,
+    calls: Calls,
+}
+
+impl Model for MemoryDevice {
+    ghost use Rattle.iq_outside.specs.Records.{Taped};
+
+    ghost Value = { Taped };
+
+    ghost view = { λ d. record { kept = d.kept; plan = d.calls } };
+}
+
+impl MemoryDevice {
+    /// A device of these blocks, none of which waits for a sync. The calls with these numbers, from 1, fail. It takes no
+    /// memory.
+    pub fn new(blocks: Vec<Block>, fails: Vec<u64>) -> MemoryDevice
+        requires { vec_len blocks < 2 ^ 32 }
+        ensures { result ≡ record { kept = record { blocks = blocks.items; changes = [] }; plan = plan_of fails.items } }
+    {
+        MemoryDevice {
+            kept: Recorded::new(blocks),
+            calls: Calls::new(fails),
+        }
+    }
+
+    /// The blocks.
+    pub fn blocks(&self) -> &[Block]
+        ensures { result.now ≡ self.now.kept.blocks }
+    {
+        self.kept.blocks()
+    }
+}
+
+/// Counts a refused allocation as a fault.
+fn counted(outcome: Result<(), AllocError>, calls: &mut Calls) -> Result<(), Failed>
+    ensures variant { is_err result ≡ is_err outcome }
+    ensures same { OnOk result (calls.new ≡ calls.old) }
+    ensures fault { OnErr result (calls.new ≡ after_fault calls.old) }
+    ensures later { calls.old.faults ≤ calls.new.faults }
+{
+    match outcome {
+        Ok(()) => Ok(()),
+        Err(_) => Err(calls.fault()),
+    }
+}
+
+impl Device for MemoryDevice {
+    ghost blocks = { taped_blocks };
+
+    ghost faults = { taped_faults };
+
+    ghost tells = { taped_tells };
+
+    ghost clock = { taped_clock };
+
+    ghost image = { taped_image };
+
+    fn count(&mut self) -> Result<u32, Failed>
+        ensures counted { HasCounted taped_blocks taped_faults taped_tells taped_clock taped_image
+            result self.old self.new }
+        ensures listed { is_err result ≡ is_listed self.old.plan }
+    {
+        self.calls.call()?;
+        Ok(self.kept.count())
+    }
+
+    fn resize(&mut self, count: u32) -> Result<(), Failed>
+        ensures resized { HasResized taped_blocks taped_faults taped_tells taped_clock taped_image
+            count result self.old self.new }
+        ensures listed { IsTrue (is_listed self.old.plan) → IsErr result }
+    {
+        self.calls.call()?;
+        counted(self.kept.resize(count), &mut self.calls)
+    }
+
+    fn read(&mut self, at: u32, into: &mut Block) -> Result<(), Failed>
+        requires { (all : List (List ℕ)) → taped_blocks self.old ≡ Some all → at < length all }
+        ensures read { HasRead taped_blocks taped_faults taped_tells taped_clock taped_image
+            at into.new result self.old self.new }
+        ensures listed { is_err result ≡ is_listed self.old.plan }
+    {
+        self.calls.call()?;
+        *into = *self.kept.block(at);
+        Ok(())
+    }
+
+    fn write(&mut self, at: u32, from: &Block) -> Result<(), Failed>
+        requires { (all : List (List ℕ)) → taped_blocks self.old ≡ Some all → at < length all }
+        ensures written { HasWritten taped_blocks taped_faults taped_tells taped_clock taped_image
+            at from.now result self.old self.new }
+        ensures listed { IsTrue (is_listed self.old.plan) → IsErr result }
+    {
+        self.calls.call()?;
+        counted(self.kept.write(at, from), &mut self.calls)
+    }
+
+    fn sync(&mut self) -> Result<(), Failed>
+        ensures synced { HasSynced taped_blocks taped_faults taped_tells taped_clock taped_image
+            result self.old self.new }
+        ensures listed { IsTrue (is_listed self.old.plan) → IsErr result }
+    {
+        self.calls.call()?;
+        counted(self.kept.sync(), &mut self.calls)
+    }
+
+    fn faults(&self) -> u64 {
+        self.calls.faults()
+    }
+
+    fn clock(&self) -> u64 {
+        self.kept.clock()
+    }
+
+    ghost reads_now = { λ device all tells told. image_told device.kept all told };
+}
