@@ -6,6 +6,7 @@
 #![tactic(auto)]
 
 mod answers;
+mod letters;
 mod lists;
 mod locks;
 mod memory;
@@ -17,6 +18,7 @@ mod texts;
 mod values;
 
 pub use answers::{Answer, Out, Versions};
+pub use letters::Letters;
 pub use lists::Listed;
 pub use locks::Locks;
 pub use memory::NoMemory;
