@@ -11,11 +11,19 @@ use Rattle.iq_model.specs.declared.replies.Said.TheVariants.{Versions, Refused}
 abbrev pub ArePlacedVersions : ℕ → List NodeVersion → Type 0
 ArePlacedVersions nodes versions = All (λ (version : NodeVersion). version.node < nodes) versions
 
+-- what is told of nodes names declared ones
+abbrev pub IsPlacedTold : ℕ → Said → Type 0
+IsPlacedTold nodes (Versions versions) = ArePlacedVersions nodes versions.nodes
+IsPlacedTold nodes _ = Unit {0}
+
+-- why a line is refused names declared sessions
+abbrev pub IsPlacedRefused : ℕ → Said → Type 0
+IsPlacedRefused sessions (Refused cause) = IsPlacedRefusal sessions cause
+IsPlacedRefused sessions _ = Unit {0}
+
 -- what is said names declared nodes and sessions alone
 abbrev pub IsPlacedSaid : ℕ → ℕ → Said → Type 0
-IsPlacedSaid nodes sessions (Versions versions) = ArePlacedVersions nodes versions.nodes
-IsPlacedSaid nodes sessions (Refused cause) = IsPlacedRefusal sessions cause
-IsPlacedSaid nodes sessions _ = Unit {0}
+IsPlacedSaid nodes sessions said = IsPlacedTold nodes said × IsPlacedRefused sessions said
 
 -- each reply does so, at the names of the history
 abbrev pub ArePlacedReplies : List Reply → HistoryState → Type 0

@@ -36,6 +36,10 @@ abbrev pub sent_text : Sent → List ℕ
 sent_text (Bagged number floor) = codes "sent" ++ then_number number ++ codes " floor" ++ then_number floor
 sent_text (Own horizon freed) = freed_text horizon freed
 
+-- the latest commit, and the horizon last used for freeing
+abbrev pub latest_text : ℕ → ℕ → List ℕ
+latest_text latest horizon = codes "versions" ++ (codes " latest" ++ then_number latest) ++ (codes " horizon" ++ then_number horizon)
+
 -- what is said of a line
 abbrev pub said_text : List (List ℕ) → Said → List ℕ
 said_text sessions (Created commit) = codes "created" ++ commit_text commit
@@ -58,16 +62,20 @@ said_text sessions (Lost number) = codes "lost" ++ then_number number
 said_text sessions (Taken freed) = freed_text freed.horizon freed.freed
 said_text sessions (Restarted incarnation) = codes "restarted" ++ then_number incarnation
 said_text sessions (Space census) = codes "space" ++ census_words census
-said_text sessions (Tells versions) = codes "versions latest" ++ then_number versions.latest ++ codes " horizon" ++ then_number versions.horizon
+said_text sessions (Tells versions) = latest_text versions.latest versions.horizon
 said_text sessions (Refused cause) = codes "refused" ++ then_name (refusal_text sessions cause)
 
 -- a row of a plan, after two spaces
 abbrev pub plan_line : List ℕ → List ℕ
 plan_line text = line (codes "  " ++ text)
 
+-- the numbers that are told of one node, each after its word
+abbrev pub version_numbers : NodeVersion → List ℕ
+version_numbers version = codes " position" ++ then_number version.position ++ codes " floor" ++ then_number version.floor ++ codes " taken" ++ then_number version.taken ++ codes " incarnation" ++ then_number version.incarnation
+
 -- what is told of one node, after two spaces
 abbrev pub version_line : List (List ℕ) → NodeVersion → List ℕ
-version_line nodes version = line (codes "  " ++ name_at nodes version.node ++ codes " position" ++ then_number version.position ++ codes " floor" ++ then_number version.floor ++ codes " taken" ++ then_number version.taken ++ codes " incarnation" ++ then_number version.incarnation)
+version_line nodes version = line (codes " " ++ then_name (name_at nodes version.node) ++ version_numbers version)
 
 -- the rows of an answer
 abbrev pub answer_lines : Answer → List ℕ

@@ -11,7 +11,7 @@ use Rattle.iq_render.proofs.values.push_doubled.Goals as goal
 pub quotes-preserved : goal.quotes-preserved
 quotes-preserved c =
     let parts : (c.quotes.rest.now ≡ c.in-Some.before.now ++ 39 ∷ c.in-Some.after.now) × HasNoQuote c.in-Some.before.now
-        = rw c.in-Some.is at (split_parts 39 c.quotes.rest.now c.split_once.result c.split_once.ensures.cases (omega arith)) in
+    = rw c.in-Some.is at (split_parts 39 c.quotes.rest.now c.split_once.result c.split_once.ensures.cases (omega arith)) in
     let doubled = doubled_split _ _ _ parts.0 parts.1 in
     (search rules, rw (c.in_ok-push_str-2.ensures.bytes, c.in_ok-push_str.ensures.bytes) (let was = rw doubled at c.quotes.invariant.1 in grind (arith, common_steps)))
 
