@@ -11,4 +11,4 @@ mod replies;
 mod values;
 mod whole;
 
-//pub use whole::{history_part, replies_part, summary, transcript};
+pub use whole::{history_part, replies_part, summary, transcript};
