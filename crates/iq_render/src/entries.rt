@@ -32,7 +32,7 @@ pub(crate) fn push_entries(
 }
 
 /// An entry: its word, its session or node, its line and its numbers.
-fn push_entry(
+pub(crate) fn push_entry(
     out: &mut String,
     nodes: &[Name],
     sessions: &[Name],

@@ -8,6 +8,8 @@
 mod entries;
 mod refusals;
 mod replies;
+#[cfg(test)]
+mod tests;
 mod values;
 mod whole;
 
