@@ -1,6 +1,7 @@
 //! What queries and steps answer.
 ghost use Rattle.std.specs.Prelude.{◌≡◌};
 
+use crate::letters::Letters;
 use crate::lists::Listed;
 use crate::nodes::NodeVersion;
 use crate::texts::Text;
@@ -17,7 +18,7 @@ pub enum Out {
 #[derive(Debug, Drop)]
 pub enum Answer {
     Rows(Listed<Listed<Out>>),
-    Plan(Listed<Listed<u8>>),
+    Plan(Listed<Letters>),
 }
 
 /// The latest commit, the horizon last used for freeing, and a row for each node.

@@ -7,6 +7,7 @@
 
 mod answers;
 mod cells;
+mod letters;
 mod lists;
 mod locks;
 mod memory;
@@ -19,6 +20,7 @@ mod values;
 
 pub use answers::{Answer, Out, Versions};
 pub use cells::{BadCell, cell_get, cell_put, width};
+pub use letters::Letters;
 pub use lists::Listed;
 pub use locks::Locks;
 pub use memory::NoMemory;

@@ -1,5 +1,6 @@
 //! The names that a statement locks.
 ghost use Rattle.std.specs.Prelude.{◌≡◌};
+ghost use Rattle.std.specs.Option.{option_copied};
 ghost use Rattle.iq_base.specs.Locks.{catalog_name, locks_of};
 
 use crate::names::Name;
@@ -29,6 +30,13 @@ impl Locks {
         ensures { result ≡ locks_of catalog table }
     {
         Locks { catalog, table }
+    }
+
+    /// Whether the catalog is locked, and the table, if there is one.
+    pub fn parts(&self) -> (bool, Option<&Name>)
+        ensures { self.now ≡ locks_of result.0 (option_copied result.1) }
+    {
+        (self.catalog, self.table.as_ref())
     }
 
     /// The same names once more, without memory.
