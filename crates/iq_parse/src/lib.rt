@@ -8,10 +8,10 @@
 mod faults;
 mod lexer;
 mod numbers;
-mod texts;
 mod parts;
 mod readers;
 mod statements;
+mod texts;
 mod tokens;
 mod words;
 
