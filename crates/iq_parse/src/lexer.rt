@@ -1,5 +1,5 @@
 //! Cuts a text into tokens.
-ghost use Rattle.std.specs.Prelude.{◌≡◌, ◌<◌, ◌≤◌, ◌↔◌, length, map, IsSome, IfSome};
+ghost use Rattle.std.specs.Prelude.{◌≡◌, ◌+◌, ◌<◌, ◌≤◌, ◌↔◌, true, length, map, slice_index, IsSome, IfSome};
 ghost use Rattle.std.specs.List.{prefix_len};
 ghost use Rattle.std.specs.Char.{is_ascii_digit, to_ascii_lowercase};
 ghost use Rattle.std.specs.Option.{option_copied};
@@ -75,7 +75,9 @@ fn lowered(word: &[u8]) -> Option<Name>
 
 #[tactic(auto, unfolding(crate::specs::Tokens::word_at, crate::specs::Tokens::word_token))]
 fn word_at(text: &[u8]) -> Front
-    ensures { result ≡ spec.word_at text.now }
+    ensures value { result ≡ spec.word_at text.now }
+    ensures within { result.bytes ≤ length text.now }
+    ensures moves { spec.is_word_byte (slice_index text.now 0) ≡ true → 0 < result.bytes }
 {
     let bytes = word_len(text);
     let token = match lowered(text.split_at(bytes).0) {
@@ -85,20 +87,33 @@ fn word_at(text: &[u8]) -> Front
     Front { token, bytes }
 }
 
+/// Whether a byte of a word stands at the place.
+fn is_word_at(text: &[u8], at: usize) -> bool
+    ensures { result ≡ spec.is_word_byte (slice_index text.now at) }
+{
+    if at < text.len() {
+        return is_word_byte(text[at]);
+    }
+    false
+}
+
 #[tactic(auto, unfolding(crate::specs::Tokens::digits_at))]
 fn digits_at(text: &[u8]) -> Option<&[u8]>
-    ensures { option_copied result ≡ spec.digits_at text.now }
+    ensures value { option_copied result ≡ spec.digits_at text.now }
+    ensures within { IfSome result (λ d. (0 < length d.now) × (length d.now ≤ length text.now)) }
 {
-    let (digits, rest) = text.split_at(digits_len(text));
-    match rest {
-        [next, ..] if is_word_byte(*next) => None,
-        _ => Some(digits),
+    let digits = digits_len(text);
+    if digits == 0 || is_word_at(text, digits) {
+        None
+    } else {
+        Some(text.split_at(digits).0)
     }
 }
 
 #[tactic(auto, unfolding(crate::specs::Tokens::number_at))]
 fn number_at(negative: bool, text: &[u8]) -> Option<Front>
-    ensures { result ≡ spec.number_at negative text.now }
+    ensures value { result ≡ spec.number_at negative text.now }
+    ensures within { IfSome result (λ f. (0 < f.bytes) × (f.bytes ≤ length text.now)) }
 {
     let digits = digits_at(text)?;
     let number = signed(negative, digits)?;
@@ -123,7 +138,8 @@ fn symbol(b: u8) -> Option<Mark>
 }
 
 fn negative_at(rest: &[u8]) -> Option<Front>
-    ensures { result ≡ spec.negative_at rest.now }
+    ensures value { result ≡ spec.negative_at rest.now }
+    ensures within { IfSome result (λ f. (0 < f.bytes) × (f.bytes ≤ length rest.now + 1)) }
 {
     let Front { token, bytes } = number_at(true, rest)?;
     Some(Front {
@@ -133,7 +149,8 @@ fn negative_at(rest: &[u8]) -> Option<Front>
 }
 
 fn symbol_at(b: u8) -> Option<Front>
-    ensures { result ≡ spec.symbol_at b }
+    ensures value { result ≡ spec.symbol_at b }
+    ensures within { IfSome result (λ f. f.bytes ≡ 1) }
 {
     let mark = symbol(b)?;
     Some(Front {
@@ -144,7 +161,8 @@ fn symbol_at(b: u8) -> Option<Front>
 
 #[tactic(auto, unfolding(crate::specs::Tokens::front_of))]
 fn front(text: &[u8]) -> Option<Front>
-    ensures { result ≡ spec.front_of text.now }
+    ensures value { result ≡ spec.front_of text.now }
+    ensures within { IfSome result (λ f. (0 < f.bytes) × (f.bytes ≤ length text.now)) }
 {
     match text {
         [] => None,
@@ -168,9 +186,9 @@ pub fn tokens(alloc: Global, text: &[u8]) -> Result<Vec<Token>, ParseFault>
 {
     let mut tokens = Vec::new(alloc);
     let mut rest = text;
-    'cut: while let [first, behind @ ..] = rest {
-        if is_space(*first) {
-            rest = behind;
+    'cut: while !rest.is_empty() {
+        if is_space(rest[0]) {
+            rest = rest.split_at(1).1;
             continue;
         }
         let Some(Front { token, bytes }) = front(rest) else {

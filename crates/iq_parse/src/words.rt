@@ -106,6 +106,7 @@ fn lookup(mut table: &[(&[u8], Mark)], word: &[u8]) -> Option<Mark>
     None
 }
 
+#[tactic(auto, unfolding(crate::specs::Tokens::keyword, crate::specs::Tokens::keywords))]
 fn keyword(word: &[u8]) -> Option<Mark>
     ensures { result ≡ spec.keyword word.now }
 {

@@ -13,3 +13,6 @@ mod scripts;
 pub use faults::{LineFault, ScriptRefusal};
 pub use laws::{one_script, script_or_fault};
 pub use scripts::read_script;
+
+#[cfg(test)]
+mod tests;
