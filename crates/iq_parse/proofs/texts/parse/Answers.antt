@@ -1,0 +1,6 @@
+use Rattle.iq_parse.proofs.Sound.{dummy}
+use Rattle.iq_parse.proofs.PartLaws.{items_again}
+use Rattle.iq_parse.proofs.texts.parse.Goals as goal
+
+pub returns-clause-found : goal.returns-clause-found
+returns-clause-found c = ?
