@@ -4,3 +4,4 @@ pub mod Steps
 pub mod ListLaws
 pub mod PartLaws
 pub mod Sound
+pub mod StatementLaws

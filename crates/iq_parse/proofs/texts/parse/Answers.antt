@@ -1,4 +1,4 @@
-use Rattle.iq_parse.proofs.Sound.{dummy}
+use Rattle.iq_parse.proofs.StatementLaws.{read_found}
 use Rattle.iq_parse.proofs.PartLaws.{items_again}
 use Rattle.iq_parse.proofs.texts.parse.Goals as goal
 

@@ -1,0 +1,161 @@
+-- Whole statements: what is read was spelled so, and what is spelled so is read.
+use Rattle.std.proofs.Common.{◌≡◌, ℕ, ◌≤◌, Bool, true, false, cond, eqb, leb, List, [], ◌∷◌, ◌++◌, length, Option, Some, None, Result, Ok, Err, unwrap_or, refl, sym, ap, subst, ◌∙◌, append_assoc, inl, inr, ◌⊎◌, ⊎_elim}
+use Rattle.std.specs.Prelude.{IfOk}
+use Rattle.std.proofs.lemmas.List.{append-nil, nil_from_length}
+use Rattle.std.proofs.lemmas.Bool.{eqb-true, leb-true, le-leb}
+use Rattle.iq_base.specs.declared.values.Value.{Value}
+use Rattle.iq_base.specs.declared.schemas.Column.{Column}
+use Rattle.iq_ast.specs.declared.statements.Item.{Item}
+use Rattle.iq_ast.specs.declared.statements.Select.{Select as SelectRecord}
+use Rattle.iq_ast.specs.declared.statements.Write.{Write}
+use Rattle.iq_ast.specs.declared.statements.Write.TheVariants as write
+use Rattle.iq_ast.specs.declared.statements.Statement.{Statement}
+use Rattle.iq_ast.specs.declared.statements.Statement.TheVariants as statement
+use Rattle.iq_ast.specs.Built.{AreColumns, AreTuples, IsTuple, AreItems, IsPlainSelect, IsBuilt}
+use Rattle.iq_parse.specs.declared.faults.ParseFault.{ParseFault}
+use Rattle.iq_parse.specs.declared.faults.ParseFault.TheVariants.{Unbuilt, NoMemory}
+use Rattle.iq_parse.specs.declared.tokens.Mark.{Mark as TheMark}
+use Rattle.iq_parse.specs.declared.tokens.Mark.TheVariants.{Create, Table, Insert, Into, Values, Select, From, Count, Int, Null, Open, Close, Comma, Star, Semicolon}
+use Rattle.iq_parse.specs.declared.tokens.Token.{Token}
+use Rattle.iq_parse.specs.declared.tokens.Token.TheVariants.{Mark, Name, Other, Number}
+use Rattle.iq_parse.specs.Tokens.{◌>>=◌, same_mark, tokens_of}
+use Rattle.iq_parse.specs.Grammar.{listed, column_spelling, tuple_spelling, item_spelling, spelling, Spells, IsStatementOf, IsOff}
+use Rattle.iq_parse.specs.Reading.{Taken, taken, Gives, mark_at, name_at, list_at, tuple_at, columns_at, items_at, create_at, insert_at, plain_select, select_at, statement_at, is_end, statement_of, read}
+use Rattle.iq_parse.proofs.Steps.{AreTokens, bind_some, some_is, chosen_some, Takes, Takes-then, mark_takes, mark_again, name_takes, name_again}
+use Rattle.iq_parse.proofs.ListLaws.{TakesList, listed_takes, list_again}
+use Rattle.iq_parse.proofs.PartLaws.{tuple_takes, tuple_again, tuple_long, columns_take, columns_again, items_take, items_again}
+use Rattle.iq_parse.proofs.Sound.{tokens_sound}
+
+-- what was read from the front is a statement of the grammar, and was spelled so
+abbrev TakesStatement : List Token → Taken Statement → Type 0
+TakesStatement ts x = Takes ts (spelling x.value) x.rest × IsBuilt x.value
+
+-- the first word of a statement
+first_word : (m : TheMark) (ts : List Token) → AreTokens ts → Takes (Mark m ∷ ts) (Mark m ∷ []) ts
+first_word m ts sound = record { parts = refl; sound = sound }
+
+create_takes : (ts : List Token) (x : Taken Statement) → AreTokens ts → create_at ts ≡ Some x → TakesStatement (Mark Create ∷ ts) x
+unfolding create_at
+create_takes ts x sound e =
+    let a = bind_some (mark_at Table ts) (λ table. name_at table >>= λ name. mark_at Open name.rest >>= λ opened. columns_at opened >>= λ columns. mark_at Close columns.rest >>= λ closed. Some (taken (statement.Write (write.CreateTable name.value (record { columns = columns.value }))) closed)) x e in
+    let b = bind_some (name_at a.0) (λ name. mark_at Open name.rest >>= λ opened. columns_at opened >>= λ columns. mark_at Close columns.rest >>= λ closed. Some (taken (statement.Write (write.CreateTable name.value (record { columns = columns.value }))) closed)) x a.2 in
+    let c = bind_some (mark_at Open b.0.rest) (λ opened. columns_at opened >>= λ columns. mark_at Close columns.rest >>= λ closed. Some (taken (statement.Write (write.CreateTable b.0.value (record { columns = columns.value }))) closed)) x b.2 in
+    let d = bind_some (columns_at c.0) (λ columns. mark_at Close columns.rest >>= λ closed. Some (taken (statement.Write (write.CreateTable b.0.value (record { columns = columns.value }))) closed)) x c.2 in
+    let f = bind_some (mark_at Close d.0.rest) (λ closed. Some (taken (statement.Write (write.CreateTable b.0.value (record { columns = d.0.value }))) closed)) x d.2 in
+    let t0 = mark_takes Table ts a.0 sound a.1 in
+    let t1 = name_takes a.0 b.0 t0.sound b.1 in
+    let t2 = mark_takes Open b.0.rest c.0 t1.0.sound c.1 in
+    let t3 = columns_take c.0 d.0 t2.sound d.1 in
+    let t4 = mark_takes Close d.0.rest f.0 t3.0.sound f.1 in
+    let columns = listed column_spelling d.0.value in
+    let e34 = Takes-then c.0 columns d.0.rest (Mark Close ∷ []) f.0 t3.0 t4 in
+    let e24 = Takes-then b.0.rest (Mark Open ∷ []) c.0 (columns ++ Mark Close ∷ []) f.0 t2 e34 in
+    let e14 = Takes-then a.0 (Name b.0.value ∷ []) b.0.rest (Mark Open ∷ (columns ++ Mark Close ∷ [])) f.0 t1.0 e24 in
+    let e04 = Takes-then ts (Mark Table ∷ []) a.0 (Name b.0.value ∷ Mark Open ∷ (columns ++ Mark Close ∷ [])) f.0 t0 e14 in
+    let made : Taken Statement = taken (statement.Write (write.CreateTable b.0.value (record { columns = d.0.value }))) f.0 in
+    let whole : Takes (Mark Create ∷ ts) (spelling made.value) f.0 = Takes-then (Mark Create ∷ ts) (Mark Create ∷ []) ts (Mark Table ∷ Name b.0.value ∷ Mark Open ∷ (columns ++ Mark Close ∷ [])) f.0 (first_word Create ts sound) e04 in
+    subst (TakesStatement (Mark Create ∷ ts)) (some_is made x f.2) (whole, (t1.1, t3.1))
+
+insert_takes : (ts : List Token) (x : Taken Statement) → AreTokens ts → insert_at ts ≡ Some x → TakesStatement (Mark Insert ∷ ts) x
+unfolding insert_at
+insert_takes ts x sound e =
+    let a = bind_some (mark_at Into ts) (λ into. name_at into >>= λ table. mark_at Values table.rest >>= λ values. list_at tuple_at values >>= λ rows. Some (taken (statement.Write (write.Insert table.value rows.value)) rows.rest)) x e in
+    let b = bind_some (name_at a.0) (λ table. mark_at Values table.rest >>= λ values. list_at tuple_at values >>= λ rows. Some (taken (statement.Write (write.Insert table.value rows.value)) rows.rest)) x a.2 in
+    let c = bind_some (mark_at Values b.0.rest) (λ values. list_at tuple_at values >>= λ rows. Some (taken (statement.Write (write.Insert b.0.value rows.value)) rows.rest)) x b.2 in
+    let d = bind_some (list_at tuple_at c.0) (λ rows. Some (taken (statement.Write (write.Insert b.0.value rows.value)) rows.rest)) x c.2 in
+    let t0 = mark_takes Into ts a.0 sound a.1 in
+    let t1 = name_takes a.0 b.0 t0.sound b.1 in
+    let t2 = mark_takes Values b.0.rest c.0 t1.0.sound c.1 in
+    let t3 = listed_takes tuple_at tuple_spelling IsTuple tuple_takes (length c.0) c.0 d.0 t2.sound d.1 in
+    let rows = listed tuple_spelling d.0.value in
+    let e23 = Takes-then b.0.rest (Mark Values ∷ []) c.0 rows d.0.rest t2 t3.takes in
+    let e13 = Takes-then a.0 (Name b.0.value ∷ []) b.0.rest (Mark Values ∷ rows) d.0.rest t1.0 e23 in
+    let e03 = Takes-then ts (Mark Into ∷ []) a.0 (Name b.0.value ∷ Mark Values ∷ rows) d.0.rest t0 e13 in
+    let made : Taken Statement = taken (statement.Write (write.Insert b.0.value d.0.value)) d.0.rest in
+    let whole : Takes (Mark Insert ∷ ts) (spelling made.value) d.0.rest = Takes-then (Mark Insert ∷ ts) (Mark Insert ∷ []) ts (Mark Into ∷ Name b.0.value ∷ Mark Values ∷ rows) d.0.rest (first_word Insert ts sound) e03 in
+    let tuples : AreTuples d.0.value = record { some = t3.some; each = t3.each } in
+    subst (TakesStatement (Mark Insert ∷ ts)) (some_is made x d.2) (whole, (t1.1, tuples))
+
+select_takes : (ts : List Token) (x : Taken Statement) → AreTokens ts → select_at ts ≡ Some x → TakesStatement (Mark Select ∷ ts) x
+unfolding select_at
+select_takes ts x sound e =
+    let a = bind_some (items_at ts) (λ items. mark_at From items.rest >>= λ from. name_at from >>= λ table. Some (taken (plain_select items.value table.value) table.rest)) x e in
+    let b = bind_some (mark_at From a.0.rest) (λ from. name_at from >>= λ table. Some (taken (plain_select a.0.value table.value) table.rest)) x a.2 in
+    let c = bind_some (name_at b.0) (λ table. Some (taken (plain_select a.0.value table.value) table.rest)) x b.2 in
+    let t0 = items_take ts a.0 sound a.1 in
+    let t1 = mark_takes From a.0.rest b.0 t0.0.sound b.1 in
+    let t2 = name_takes b.0 c.0 t1.sound c.1 in
+    let items = listed item_spelling a.0.value in
+    let e12 = Takes-then a.0.rest (Mark From ∷ []) b.0 (Name c.0.value ∷ []) c.0.rest t1 t2.0 in
+    let e02 = Takes-then ts items a.0.rest (Mark From ∷ Name c.0.value ∷ []) c.0.rest t0.0 e12 in
+    let made : Taken Statement = taken (plain_select a.0.value c.0.value) c.0.rest in
+    let whole : Takes (Mark Select ∷ ts) (spelling made.value) c.0.rest = Takes-then (Mark Select ∷ ts) (Mark Select ∷ []) ts (items ++ Mark From ∷ Name c.0.value ∷ []) c.0.rest (first_word Select ts sound) e02 in
+    let plain : IsBuilt made.value = record { table = t2.1; items = t0.1; explain = refl; cond = refl; group = refl; order = refl } in
+    subst (TakesStatement (Mark Select ∷ ts)) (some_is made x c.2) (whole, plain)
+
+statement_takes : (ts : List Token) (x : Taken Statement) → AreTokens ts → statement_at ts ≡ Some x → TakesStatement ts x
+unfolding statement_at
+statement_takes [] x sound e = absurd cc
+statement_takes (Mark Create ∷ ts) x sound e = create_takes ts x sound.1 e
+statement_takes (Mark Insert ∷ ts) x sound e = insert_takes ts x sound.1 e
+statement_takes (Mark Select ∷ ts) x sound e = select_takes ts x sound.1 e
+statement_takes (Mark Table ∷ ts) x sound e = absurd cc
+statement_takes (Mark Into ∷ ts) x sound e = absurd cc
+statement_takes (Mark Values ∷ ts) x sound e = absurd cc
+statement_takes (Mark From ∷ ts) x sound e = absurd cc
+statement_takes (Mark Count ∷ ts) x sound e = absurd cc
+statement_takes (Mark Int ∷ ts) x sound e = absurd cc
+statement_takes (Mark Null ∷ ts) x sound e = absurd cc
+statement_takes (Mark Open ∷ ts) x sound e = absurd cc
+statement_takes (Mark Close ∷ ts) x sound e = absurd cc
+statement_takes (Mark Comma ∷ ts) x sound e = absurd cc
+statement_takes (Mark Star ∷ ts) x sound e = absurd cc
+statement_takes (Mark Semicolon ∷ ts) x sound e = absurd cc
+statement_takes (Name name ∷ ts) x sound e = absurd cc
+statement_takes (Other ∷ ts) x sound e = absurd cc
+statement_takes (Number n ∷ ts) x sound e = absurd cc
+
+-- ---- the end of a statement
+
+abbrev IsLast : List Token → Type 0
+IsLast ts = (ts ≡ []) ⊎ (ts ≡ Mark Semicolon ∷ [])
+
+last_is : (ts : List Token) (o : Option (List Token)) → AreTokens ts → mark_at Semicolon ts ≡ o → eqb (length (unwrap_or o ts)) 0 ≡ true → IsLast ts
+last_is ts None sound is e = inl (nil_from_length ts (eqb-true _ _ e))
+last_is ts (Some rest) sound is e =
+    let t = mark_takes Semicolon ts rest sound is in
+    inr (t.parts ∙ ap (λ (x : List Token). Mark Semicolon ∷ x) (nil_from_length rest (eqb-true _ _ e)))
+
+end_is : (ts : List Token) → AreTokens ts → is_end ts ≡ true → IsLast ts
+unfolding is_end
+end_is ts sound e = last_is ts (mark_at Semicolon ts) sound refl e
+
+end_nil : is_end [] ≡ true
+unfolding is_end mark_at
+end_nil = refl
+
+end_semicolon : is_end (Mark Semicolon ∷ []) ≡ true
+unfolding is_end
+end_semicolon = rw (mark_again Semicolon []) refl
+
+-- ---- what is read
+
+pub statement_found : (ts : List Token) (s : Statement) → AreTokens ts → statement_of ts ≡ Some s → Spells s ts
+unfolding statement_of
+statement_found ts s sound e =
+    let a = bind_some (statement_at ts) (λ statement. cond (is_end statement.rest) (Some statement.value) None) s e in
+    let c = chosen_some (is_end a.0.rest) a.0.value s a.2 in
+    let t = statement_takes ts a.0 sound a.1 in
+    let ended = ⊎_elim (λ (n : a.0.rest ≡ []). inl (t.0.parts ∙ ap (λ (r : List Token). spelling a.0.value ++ r) n ∙ append-nil (spelling a.0.value))) (λ (n : a.0.rest ≡ Mark Semicolon ∷ []). inr (t.0.parts ∙ ap (λ (r : List Token). spelling a.0.value ++ r) n)) (end_is a.0.rest t.0.sound c.0) in
+    subst (λ (x : Statement). Spells x ts) c.1 (record { built = t.1; spelled = ended })
+
+short_some : (short : Bool) (o : Option Statement) (s : Statement) → cond short o None ≡ Some s → (short ≡ true) × (o ≡ Some s)
+short_some true o s e = (refl, e)
+short_some false o s e = absurd cc
+
+pub read_found : (text : List ℕ) (s : Statement) → read text ≡ Some s → IsStatementOf text s
+unfolding read
+read_found text s e =
+    let c = short_some (leb (length text) 4096) (tokens_of text >>= statement_of) s e in
+    let b = bind_some (tokens_of text) statement_of s c.1 in
+    record { tokens = b.0; short = leb-true _ _ c.0; cut = b.1; spells = statement_found b.0 s (tokens_sound 0 text b.0 b.1) b.2 }
