@@ -159,3 +159,104 @@ read_found text s e =
     let c = short_some (leb (length text) 4096) (tokens_of text >>= statement_of) s e in
     let b = bind_some (tokens_of text) statement_of s c.1 in
     record { tokens = b.0; short = leb-true _ _ c.0; cut = b.1; spells = statement_found b.0 s (tokens_sound 0 text b.0 b.1) b.2 }
+
+-- ---- what is spelled
+
+-- behind a statement stands nothing or a `;`, which is no comma
+abbrev IsBehind : List Token → Type 0
+IsBehind rest = (is_end rest ≡ true) × (mark_at Comma rest ≡ None)
+
+behind_nil : IsBehind []
+unfolding is_end mark_at
+behind_nil = (refl, refl)
+
+behind_semicolon : IsBehind (Mark Semicolon ∷ [])
+unfolding is_end mark_at same_mark
+behind_semicolon = (refl, refl)
+
+create_again : (name : List ℕ) (columns : List Column) (rest : List Token) → AreColumns columns
+    → statement_at (spelling (statement.Write (write.CreateTable name (record { columns = columns }))) ++ rest) ≡ Some (taken (statement.Write (write.CreateTable name (record { columns = columns }))) rest)
+unfolding statement_at create_at
+create_again name columns rest fits =
+    let closing = Mark Close ∷ rest in
+    let list = listed column_spelling columns in
+    let regrouped : (list ++ Mark Close ∷ []) ++ rest ≡ list ++ closing = append_assoc list (Mark Close ∷ []) rest in
+    ap (λ (t : List Token). create_at (Mark Table ∷ Name name ∷ Mark Open ∷ t)) regrouped
+    ∙ rw (mark_again Table (Name name ∷ Mark Open ∷ (list ++ closing)), name_again name (Mark Open ∷ (list ++ closing)), mark_again Open (list ++ closing), columns_again columns rest fits, mark_again Close rest) refl
+
+insert_again : (table : List ℕ) (rows : List (List Value)) (rest : List Token) → AreTuples rows → mark_at Comma rest ≡ None
+    → statement_at (spelling (statement.Write (write.Insert table rows)) ++ rest) ≡ Some (taken (statement.Write (write.Insert table rows)) rest)
+unfolding statement_at insert_at
+insert_again table rows rest fits comma =
+    let list = listed tuple_spelling rows ++ rest in
+    rw (mark_again Into (Name table ∷ Mark Values ∷ list), name_again table (Mark Values ∷ list), mark_again Values list, list_again tuple_at tuple_spelling IsTuple tuple_long tuple_again rows rest fits.some fits.each comma) refl
+
+-- a plain SELECT is known by its items and its table
+plain_select_is : (select : SelectRecord) → IsPlainSelect select → plain_select select.items select.table ≡ statement.Select select
+plain_select_is select fits =
+    λ i. statement.Select (record { explain = sym fits.explain i; items = select.items; table = select.table; cond = sym fits.cond i; group = sym fits.group i; order = sym fits.order i })
+
+select_again : (select : SelectRecord) (rest : List Token) → IsPlainSelect select → statement_at (spelling (statement.Select select) ++ rest) ≡ Some (taken (statement.Select select) rest)
+unfolding statement_at select_at
+select_again select rest fits =
+    let list = listed item_spelling select.items in
+    let regrouped : (list ++ Mark From ∷ Name select.table ∷ []) ++ rest ≡ list ++ Mark From ∷ Name select.table ∷ rest = append_assoc list (Mark From ∷ Name select.table ∷ []) rest in
+    ap select_at regrouped
+    ∙ rw (items_again select.items (Name select.table ∷ rest) fits.items, mark_again From (Name select.table ∷ rest), name_again select.table rest) (ap (λ (s : Statement). Some (taken s rest)) (plain_select_is select fits))
+
+write_again : (w : Write) (rest : List Token) → IsBuilt (statement.Write w) → mark_at Comma rest ≡ None → statement_at (spelling (statement.Write w) ++ rest) ≡ Some (taken (statement.Write w) rest)
+write_again (write.CreateTable name schema) rest built comma = create_again name schema.columns rest built.1
+write_again (write.Insert table rows) rest built comma = insert_again table rows rest built.1 comma
+write_again (write.DropTable name) rest built comma = absurd built
+write_again (write.CreateIndex name kind table column second) rest built comma = absurd built
+write_again (write.DropIndex table name) rest built comma = absurd built
+write_again (write.Load table rows text) rest built comma = absurd built
+write_again (write.Delete table cond) rest built comma = absurd built
+write_again (write.Update table changes cond) rest built comma = absurd built
+
+statement_again : (s : Statement) (rest : List Token) → IsBuilt s → mark_at Comma rest ≡ None → statement_at (spelling s ++ rest) ≡ Some (taken s rest)
+statement_again (statement.Write w) rest built comma = write_again w rest built comma
+statement_again (statement.Select select) rest built comma = select_again select rest built
+statement_again statement.Begin rest built comma = absurd built
+statement_again statement.Commit rest built comma = absurd built
+statement_again statement.Rollback rest built comma = absurd built
+statement_again (statement.Savepoint name) rest built comma = absurd built
+statement_again (statement.BackTo name) rest built comma = absurd built
+statement_again (statement.Release name) rest built comma = absurd built
+statement_again statement.Sync rest built comma = absurd built
+
+whole_again : (s : Statement) (rest : List Token) → IsBuilt s → IsBehind rest → statement_of (spelling s ++ rest) ≡ Some s
+unfolding statement_of
+whole_again s rest built behind = rw (statement_again s rest built behind.1, behind.0) refl
+
+pub statement_only : (ts : List Token) (s : Statement) → Spells s ts → statement_of ts ≡ Some s
+statement_only ts s spells =
+    ⊎_elim
+    (λ (e : ts ≡ spelling s). ap statement_of (e ∙ sym (append-nil (spelling s))) ∙ whole_again s [] spells.built behind_nil)
+    (λ (e : ts ≡ spelling s ++ Mark Semicolon ∷ []). ap statement_of e ∙ whole_again s (Mark Semicolon ∷ []) spells.built behind_semicolon)
+    spells.spelled
+
+pub read_only : (text : List ℕ) (s : Statement) → IsStatementOf text s → read text ≡ Some s
+unfolding read
+read_only text s is = rw (le-leb _ _ is.short, is.cut) (statement_only is.tokens s is.spells)
+
+-- ---- what the reader returned
+
+pub is_found : (text : List ℕ) (r : Result Statement ParseFault) → Gives (λ s. s) r (read text) → IfOk r (λ s. IsStatementOf text s)
+is_found text (Ok s) given = read_found text s given
+is_found text (Err e) given = tt
+
+pub is_built : (text : List ℕ) (r : Result Statement ParseFault) → Gives (λ s. s) r (read text) → IfOk r IsBuilt
+is_built text (Ok s) given = (read_found text s given).spells.built
+is_built text (Err e) given = tt
+
+pub is_only : (text : List ℕ) (r : Result Statement ParseFault) (s : Statement) → Gives (λ s. s) r (read text) → IsStatementOf text s → Gives (λ s. s) r (Some s)
+is_only text r s given is = subst (λ (o : Option Statement). Gives (λ s. s) r o) (read_only text s is) given
+
+nothing_is : (s : Statement) → None ≡ Some s → ⊥
+nothing_is s e = cc
+
+pub is_unbuilt : (text : List ℕ) (r : Result Statement ParseFault) → Gives (λ s. s) r (read text) → r ≡ Err Unbuilt → IsOff text
+is_unbuilt text r given e s is =
+    let none : read text ≡ None = subst (λ (x : Result Statement ParseFault). Gives (λ s. s) x (read text)) e given in
+    nothing_is s (sym none ∙ read_only text s is)
