@@ -1,5 +1,5 @@
 -- Cutting a text into tokens one by one, as a loop does.
-use Rattle.std.proofs.Common.{◌≡◌, ℕ, zero, suc, ◌-◌, ◌<◌, ◌≤◌, Bool, true, false, eqb, List, [], ◌∷◌, ◌++◌, length, get_or, take, drop, map, Option, Some, None, option_map, refl, sym, ap, ◌∙◌, append_assoc, inl, inr, arith}
+use Rattle.std.proofs.Common.{◌≡◌, ℕ, zero, suc, ◌-◌, ◌<◌, Bool, true, false, eqb, List, [], ◌∷◌, ◌++◌, length, get_or, take, drop, map, Option, Some, None, option_map, refl, sym, ap, ◌∙◌, append_assoc, inl, inr, arith}
 use Rattle.std.specs.List.{prefix_len}
 use Rattle.std.specs.Str.{IsAscii}
 use Rattle.std.proofs.lemmas.Bool.{cases_lt}
@@ -10,7 +10,7 @@ use Rattle.iq_parse.specs.declared.tokens.Token.{Token}
 use Rattle.iq_parse.specs.declared.tokens.Front.{Front}
 use Rattle.iq_parse.specs.declared.words.TheConstants.{RESERVED}
 use Rattle.iq_ast.specs.Words.{reserved}
-use Rattle.iq_parse.specs.Tokens.{◌>>=◌, is_space, is_word_byte, front_of, tokens_from, tokens_of}
+use Rattle.iq_parse.specs.Tokens.{is_space, is_word_byte, front_of, tokens_from, tokens_of}
 
 -- the table of reserved words is the list of them
 pub reserved_is : map (λ r. r.now) RESERVED ≡ reserved

@@ -1,11 +1,10 @@
 -- A list that is read is the list that was spelled, whatever its parts are.
-use Rattle.std.proofs.Common.{◌≡◌, ℕ, zero, suc, ◌+◌, ◌<◌, ◌≤◌, List, [], ◌∷◌, ◌++◌, length, Option, Some, None, refl, sym, ap, subst, ◌∙◌, append_assoc, arith}
+use Rattle.std.proofs.Common.{◌≡◌, ℕ, zero, suc, ◌<◌, ◌≤◌, List, [], ◌∷◌, ◌++◌, length, Option, Some, None, refl, sym, ap, subst, ◌∙◌, append_assoc, arith}
 use Rattle.std.specs.List.{flat_map, AllByRecursion}
 use Rattle.std.proofs.lemmas.List.{length-append, append-nil}
 use Rattle.iq_parse.specs.declared.tokens.Mark.TheVariants.{Comma}
 use Rattle.iq_parse.specs.declared.tokens.Token.{Token}
 use Rattle.iq_parse.specs.declared.tokens.Token.TheVariants.{Mark}
-use Rattle.iq_parse.specs.Tokens.{◌>>=◌}
 use Rattle.iq_parse.specs.Grammar.{next_spelled, listed}
 use Rattle.iq_parse.specs.Reading.{Taken, taken, mark_at, after_one, listed_at, list_at}
 use Rattle.iq_parse.proofs.Steps.{AreTokens, bind_some, some_is, Takes, Takes-then, mark_takes, mark_again}
@@ -40,7 +39,7 @@ module _ {A : Type 0} (one : List Token → Option (Taken A)) (spell : A → Lis
       let list = rest_takes more b.0 gone.sound b.1 in
       let both : Takes first.rest (Mark Comma ∷ listed spell b.0.value) b.0.rest = Takes-then first.rest (Mark Comma ∷ []) more (listed spell b.0.value) b.0.rest gone list.takes in
       let made : TakesMore spell P (taken (first.value ∷ []) first.rest) (taken (first.value ∷ b.0.value) b.0.rest) =
-          record { others = b.0.value; value = refl; takes = rw (comma_listed spell b.0.value list.some) both; each = list.each } in
+      record { others = b.0.value; value = refl; takes = rw (comma_listed spell b.0.value list.some) both; each = list.each } in
       subst (λ (y : Taken (List A)). TakesMore spell P (taken (first.value ∷ []) first.rest) y) (some_is (taken (first.value ∷ b.0.value) b.0.rest) x b.2) made
 
   pub listed_takes : ((ts : List Token) (x : Taken A) → AreTokens ts → one ts ≡ Some x → Takes ts (spell x.value) x.rest × P x.value)
@@ -84,5 +83,5 @@ module _ {A : Type 0} (one : List Token → Option (Taken A)) (spell : A → Lis
   list_again long again [] rest some each comma = absurd (omega arith)
   list_again long again (x ∷ xs) rest some each comma =
       let enough : length (x ∷ xs) ≤ length (listed spell (x ∷ xs) ++ rest) =
-          omega (arith, long x, others_long xs, length-append (spell x) (flat_map (next_spelled spell) xs), length-append (listed spell (x ∷ xs)) rest) in
+      omega (arith, long x, others_long xs, length-append (spell x) (flat_map (next_spelled spell) xs), length-append (listed spell (x ∷ xs)) rest) in
       listed_again again (length (listed spell (x ∷ xs) ++ rest)) (x ∷ xs) rest some enough each comma

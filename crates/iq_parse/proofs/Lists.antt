@@ -6,7 +6,7 @@ use Rattle.iq_parse.specs.declared.faults.ParseFault.TheVariants.{Unbuilt, NoMem
 use Rattle.iq_parse.specs.declared.tokens.Mark.TheVariants.{Comma}
 use Rattle.iq_parse.specs.declared.tokens.Token.{Token}
 use Rattle.iq_parse.specs.Tokens.{◌>>=◌}
-use Rattle.iq_parse.specs.Reading.{Taken, taken, Fails, mark_at, after_one, listed_at, list_at}
+use Rattle.iq_parse.specs.Reading.{Taken, taken, Fails, mark_at, listed_at, list_at}
 
 -- what was read before, and what is still read
 abbrev pub with_front : {A : Type 0} → List A → Option (Taken (List A)) → Option (Taken (List A))
@@ -47,7 +47,7 @@ goes_on one parts x rest behind more tokens is shorter comma less so_far =
     let m = length tokens - length (parts ++ x ∷ []) in
     let k : length tokens - length parts ≡ suc m = omega arith in
     let one_step : with_front parts (listed_at one (length tokens - length parts) rest) ≡ with_front (parts ++ x ∷ []) (listed_at one m more) =
-        ap (λ (n : ℕ). with_front parts (listed_at one n rest)) k ∙ ap (with_front parts) (step_more one m x rest behind more is comma) ∙ regroup parts x (listed_at one m more) in
+    ap (λ (n : ℕ). with_front parts (listed_at one n rest)) k ∙ ap (with_front parts) (step_more one m x rest behind more is comma) ∙ regroup parts x (listed_at one m more) in
     record { read = sym one_step ∙ so_far.read; left = omega arith }
 
 pub is_done : {A : Type 0} (one : List Token → Option (Taken A)) (parts : List A) (x : A) (rest behind tokens : List Token)

@@ -1,16 +1,12 @@
 -- Columns, values, tuples and items: what is read was spelled so, and what is spelled so is read.
-use Rattle.std.proofs.Common.{◌≡◌, ℕ, ◌+◌, ◌<◌, ◌≤◌, Bool, true, false, cond, eqb, leb, ◌&&◌, List, [], ◌∷◌, ◌++◌, length, Option, Some, None, refl, sym, ap, subst, ◌∙◌, append_assoc, arith}
-use Rattle.std.specs.Prelude.{⊤, FitsSigned}
-use Rattle.std.specs.Int.{w32}
-use Rattle.std.specs.List.{flat_map, AllByRecursion}
-use Rattle.std.proofs.lemmas.List.{length-append}
+use Rattle.std.proofs.Common.{◌≡◌, ℕ, ◌<◌, true, false, cond, leb, ◌&&◌, List, [], ◌∷◌, ◌++◌, length, Option, Some, None, refl, sym, ap, subst, ◌∙◌, append_assoc, arith}
+use Rattle.std.specs.List.{AllByRecursion}
 use Rattle.std.proofs.lemmas.Bool.{and_parts, leb-true, le-leb}
 use Rattle.iq_base.specs.declared.values.Value.{Value}
 use Rattle.iq_base.specs.declared.values.Value.TheVariants as value
 use Rattle.iq_base.specs.declared.schemas.Column.{Column}
 use Rattle.iq_ast.specs.declared.statements.Item.{Item}
 use Rattle.iq_ast.specs.declared.statements.Item.TheVariants as item
-use Rattle.iq_ast.specs.Words.{IsName}
 use Rattle.iq_ast.specs.Built.{differ, IsIntColumn, AreColumns, IsCell, IsTuple, IsPlain, AreItems}
 use Rattle.iq_parse.specs.declared.tokens.Mark.{Mark as TheMark}
 use Rattle.iq_parse.specs.declared.tokens.Mark.TheVariants.{Int, Null, Open, Close, Star, Count, Comma, From}
@@ -20,7 +16,7 @@ use Rattle.iq_parse.specs.Tokens.{◌>>=◌, same_mark}
 use Rattle.iq_parse.specs.Grammar.{listed, column_spelling, value_spelling, tuple_spelling, item_spelling}
 use Rattle.iq_parse.specs.Reading.{Taken, taken, mark_at, name_at, value_at, list_at, tuple_at, int_column, column_at, columns_at, plain_at, count_at, items_from, items_at}
 use Rattle.iq_parse.proofs.Steps.{AreTokens, bind_some, some_is, chosen_some, Takes, Takes-then, mark_takes, mark_again, name_takes, name_again}
-use Rattle.iq_parse.proofs.ListLaws.{TakesList, listed_takes, list_again}
+use Rattle.iq_parse.proofs.ListLaws.{listed_takes, list_again}
 
 -- a mark that comes first is no other mark
 pub other_mark : (m k : TheMark) (rest : List Token) → same_mark k m ≡ false → mark_at m (Mark k ∷ rest) ≡ None
@@ -208,11 +204,11 @@ items_again [] rest fits = absurd fits
 items_again (item.Plain name ∷ items) rest fits =
     let behind = listed item_spelling (item.Plain name ∷ items) ++ Mark From ∷ rest in
     let read : list_at plain_at behind ≡ Some (taken (item.Plain name ∷ items) (Mark From ∷ rest)) =
-        list_again plain_at item_spelling IsPlain item_long plain_again (item.Plain name ∷ items) (Mark From ∷ rest) (omega arith) fits (from_no_comma rest) in
+    list_again plain_at item_spelling IsPlain item_long plain_again (item.Plain name ∷ items) (Mark From ∷ rest) (omega arith) fits (from_no_comma rest) in
     ap (λ (o : Option (List Token)). items_from o behind) (name_no_count name _) ∙ read
 items_again (item.CountAll ∷ items) rest fits =
     let only : items_at (listed item_spelling (item.CountAll ∷ []) ++ Mark From ∷ rest) ≡ Some (taken (item.CountAll ∷ []) (Mark From ∷ rest)) =
-        rw (mark_again Count (Mark Open ∷ Mark Star ∷ Mark Close ∷ Mark From ∷ rest), mark_again Open (Mark Star ∷ Mark Close ∷ Mark From ∷ rest), mark_again Star (Mark Close ∷ Mark From ∷ rest), mark_again Close (Mark From ∷ rest)) refl in
+    rw (mark_again Count (Mark Open ∷ Mark Star ∷ Mark Close ∷ Mark From ∷ rest), mark_again Open (Mark Star ∷ Mark Close ∷ Mark From ∷ rest), mark_again Star (Mark Close ∷ Mark From ∷ rest), mark_again Close (Mark From ∷ rest)) refl in
     subst (λ (others : List Item). items_at (listed item_spelling (item.CountAll ∷ others) ++ Mark From ∷ rest) ≡ Some (taken (item.CountAll ∷ others) (Mark From ∷ rest))) (sym fits) only
 items_again (item.Count name ∷ items) rest fits = absurd fits.0
 items_again (item.Sum name ∷ items) rest fits = absurd fits.0

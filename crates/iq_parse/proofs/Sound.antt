@@ -1,18 +1,18 @@
 -- The tokens of a text hold what tokens may hold: names that are names, and numbers of 32 bits.
-use Rattle.std.proofs.Common.{◌≡◌, ℕ, zero, suc, ◌+◌, ◌-◌, ◌<◌, ◌≤◌, ◌^◌, Bool, true, false, cond, eqb, ltb, leb, ◌&&◌, ◌||◌, List, [], ◌∷◌, length, take, map, Option, Some, None, option_map, ℤ, pos, neg_ℤ, one-add, ◌⊎◌, refl, sym, ap, subst, ◌∙◌, inl, inr, arith}
-use Rattle.std.specs.Prelude.{IsTrue, FitsSigned, ⊤}
+use Rattle.std.proofs.Common.{◌≡◌, ℕ, zero, suc, ◌+◌, ◌-◌, ◌<◌, ◌≤◌, ◌^◌, Bool, true, false, cond, eqb, ltb, leb, List, [], ◌∷◌, length, take, map, Option, Some, None, option_map, ℤ, pos, neg_ℤ, one-add, ◌⊎◌, refl, subst, inl, inr, arith}
+use Rattle.std.specs.Prelude.{FitsSigned}
 use Rattle.std.specs.Int.{w32}
 use Rattle.std.specs.Char.{to_ascii_lowercase, is_ascii_digit}
-use Rattle.std.specs.List.{prefix_len, list_all, AllByRecursion}
+use Rattle.std.specs.List.{prefix_len, list_all}
 use Rattle.std.proofs.lemmas.Bool.{and_from, cases_Bool, ltb-false, ltb-true, leb-true}
 use Rattle.std.proofs.lemmas.Bool.Decides.{nat_tests}
 use Rattle.std.proofs.lemmas.Int.{ints}
-use Rattle.iq_ast.specs.Words.{is_reserved, begins_word, is_in_word, IsWord, IsName}
+use Rattle.iq_ast.specs.Words.{is_reserved, begins_word, is_in_word, IsWord}
 use Rattle.iq_parse.specs.declared.tokens.Mark.{Mark as TheMark}
 use Rattle.iq_parse.specs.declared.tokens.Token.{Token}
 use Rattle.iq_parse.specs.declared.tokens.Token.TheVariants.{Mark, Name, Other, Number}
 use Rattle.iq_parse.specs.declared.tokens.Front.{Front}
-use Rattle.iq_parse.specs.Tokens.{◌>>=◌, is_space, is_word_byte, keyword, plain_word, marked, word_token, word_at, digits_at, decimal, signed, number_at, negative_at, symbol, symbol_at, front_of, tokens_from}
+use Rattle.iq_parse.specs.Tokens.{◌>>=◌, is_space, is_word_byte, keyword, marked, word_token, word_at, digits_at, decimal, signed, number_at, negative_at, symbol, symbol_at, front_of, tokens_from}
 use Rattle.iq_parse.proofs.Steps.{IsToken, AreTokens, bind_some, some_is, chosen_some}
 
 -- ---- words
@@ -87,11 +87,11 @@ last_sound : (b : ℕ) (rest : List ℕ) (front : Front) → cond (eqb b 45) (ne
 last_sound b rest front e =
     elim (which (eqb b 45) (negative_at rest) (symbol_at b) (Some front) e) [
       | inl h ↦
-        let x = option_map_some (λ (f : Front). record { token = f.token; bytes = 1 + f.bytes }) (number_at true rest) front h.1 in
-        subst (λ (f : Front). IsToken f.token) x.2 (number_sound true rest x.0 x.1)
+          let x = option_map_some (λ (f : Front). record { token = f.token; bytes = 1 + f.bytes }) (number_at true rest) front h.1 in
+          subst (λ (f : Front). IsToken f.token) x.2 (number_sound true rest x.0 x.1)
       | inr h ↦
-        let x = option_map_some (λ (m : TheMark). record { token = Mark m; bytes = 1 }) (symbol b) front h.1 in
-        subst (λ (f : Front). IsToken f.token) x.2 tt
+          let x = option_map_some (λ (m : TheMark). record { token = Mark m; bytes = 1 }) (symbol b) front h.1 in
+          subst (λ (f : Front). IsToken f.token) x.2 tt
     ]
 
 front_sound : (text : List ℕ) (front : Front) → front_of text ≡ Some front → IsToken front.token
@@ -101,10 +101,10 @@ front_sound (b ∷ rest) front e =
     elim (which (is_ascii_digit b) (number_at false (b ∷ rest)) _ (Some front) e) [
       | inl h ↦ number_sound false (b ∷ rest) front h.1
       | inr h ↦
-        elim (which (is_word_byte b) (Some (word_at (b ∷ rest))) (cond (eqb b 45) (negative_at rest) (symbol_at b)) (Some front) h.1) [
-          | inl g ↦ subst (λ (f : Front). IsToken f.token) (some_is (word_at (b ∷ rest)) front g.1) (word_sound b rest g.0 h.0)
-          | inr g ↦ last_sound b rest front g.1
-        ]
+          elim (which (is_word_byte b) (Some (word_at (b ∷ rest))) (cond (eqb b 45) (negative_at rest) (symbol_at b)) (Some front) h.1) [
+            | inl g ↦ subst (λ (f : Front). IsToken f.token) (some_is (word_at (b ∷ rest)) front g.1) (word_sound b rest g.0 h.0)
+            | inr g ↦ last_sound b rest front g.1
+          ]
     ]
 
 -- ---- all tokens
@@ -117,7 +117,7 @@ tokens_sound zero (b ∷ rest) ts e =
     elim (which (is_space b) (tokens_from zero rest) _ (Some ts) e) [
       | inl h ↦ tokens_sound zero rest ts h.1
       | inr h ↦
-        let x = bind_some (front_of (b ∷ rest)) (λ (front : Front). option_map (λ (others : List Token). front.token ∷ others) (tokens_from (front.bytes - 1) rest)) ts h.1 in
-        let y = option_map_some (λ (others : List Token). x.0.token ∷ others) (tokens_from (x.0.bytes - 1) rest) ts x.2 in
-        subst AreTokens y.2 (front_sound (b ∷ rest) x.0 x.1, tokens_sound (x.0.bytes - 1) rest y.0 y.1)
+          let x = bind_some (front_of (b ∷ rest)) (λ (front : Front). option_map (λ (others : List Token). front.token ∷ others) (tokens_from (front.bytes - 1) rest)) ts h.1 in
+          let y = option_map_some (λ (others : List Token). x.0.token ∷ others) (tokens_from (x.0.bytes - 1) rest) ts x.2 in
+          subst AreTokens y.2 (front_sound (b ∷ rest) x.0 x.1, tokens_sound (x.0.bytes - 1) rest y.0 y.1)
     ]

@@ -1,19 +1,18 @@
 -- Whole statements: what is read was spelled so, and what is spelled so is read.
-use Rattle.std.proofs.Common.{◌≡◌, ℕ, ◌≤◌, Bool, true, false, cond, eqb, leb, List, [], ◌∷◌, ◌++◌, length, Option, Some, None, Result, Ok, Err, unwrap_or, refl, sym, ap, subst, ◌∙◌, append_assoc, inl, inr, ◌⊎◌, ⊎_elim}
+use Rattle.std.proofs.Common.{◌≡◌, ℕ, Bool, true, false, cond, eqb, leb, List, [], ◌∷◌, ◌++◌, length, Option, Some, None, Result, Ok, Err, unwrap_or, refl, sym, ap, subst, ◌∙◌, append_assoc, inl, inr, ◌⊎◌, ⊎_elim}
 use Rattle.std.specs.Prelude.{IfOk}
 use Rattle.std.proofs.lemmas.List.{append-nil, nil_from_length}
 use Rattle.std.proofs.lemmas.Bool.{eqb-true, leb-true, le-leb}
 use Rattle.iq_base.specs.declared.values.Value.{Value}
 use Rattle.iq_base.specs.declared.schemas.Column.{Column}
-use Rattle.iq_ast.specs.declared.statements.Item.{Item}
 use Rattle.iq_ast.specs.declared.statements.Select.{Select as SelectRecord}
 use Rattle.iq_ast.specs.declared.statements.Write.{Write}
 use Rattle.iq_ast.specs.declared.statements.Write.TheVariants as write
 use Rattle.iq_ast.specs.declared.statements.Statement.{Statement}
 use Rattle.iq_ast.specs.declared.statements.Statement.TheVariants as statement
-use Rattle.iq_ast.specs.Built.{AreColumns, AreTuples, IsTuple, AreItems, IsPlainSelect, IsBuilt}
+use Rattle.iq_ast.specs.Built.{AreColumns, AreTuples, IsTuple, IsPlainSelect, IsBuilt}
 use Rattle.iq_parse.specs.declared.faults.ParseFault.{ParseFault}
-use Rattle.iq_parse.specs.declared.faults.ParseFault.TheVariants.{Unbuilt, NoMemory}
+use Rattle.iq_parse.specs.declared.faults.ParseFault.TheVariants.{Unbuilt}
 use Rattle.iq_parse.specs.declared.tokens.Mark.{Mark as TheMark}
 use Rattle.iq_parse.specs.declared.tokens.Mark.TheVariants.{Create, Table, Insert, Into, Values, Select, From, Count, Int, Null, Open, Close, Comma, Star, Semicolon}
 use Rattle.iq_parse.specs.declared.tokens.Token.{Token}
@@ -22,7 +21,7 @@ use Rattle.iq_parse.specs.Tokens.{◌>>=◌, same_mark, tokens_of}
 use Rattle.iq_parse.specs.Grammar.{listed, column_spelling, tuple_spelling, item_spelling, spelling, Spells, IsStatementOf, IsOff}
 use Rattle.iq_parse.specs.Reading.{Taken, taken, Gives, mark_at, name_at, list_at, tuple_at, columns_at, items_at, create_at, insert_at, plain_select, select_at, statement_at, is_end, statement_of, read}
 use Rattle.iq_parse.proofs.Steps.{AreTokens, bind_some, some_is, chosen_some, Takes, Takes-then, mark_takes, mark_again, name_takes, name_again}
-use Rattle.iq_parse.proofs.ListLaws.{TakesList, listed_takes, list_again}
+use Rattle.iq_parse.proofs.ListLaws.{listed_takes, list_again}
 use Rattle.iq_parse.proofs.PartLaws.{tuple_takes, tuple_again, tuple_long, columns_take, columns_again, items_take, items_again}
 use Rattle.iq_parse.proofs.Sound.{tokens_sound}
 

@@ -1,5 +1,5 @@
 -- Reading from left to right: what each function of the reader finds at the front of the tokens.
-use Rattle.std.specs.Prelude.{◌≡◌, ◌≤◌, ℕ, zero, suc, Bool, true, false, ◌&&◌, if◌then◌else◌, List, [], ◌∷◌, length, Option, Some, None, Result, Ok, Err, unwrap_or, nat_eq, nat_le, ⊤}
+use Rattle.std.specs.Prelude.{◌≡◌, ℕ, zero, suc, Bool, true, false, ◌&&◌, if◌then◌else◌, List, [], ◌∷◌, length, Option, Some, None, Result, Ok, Err, unwrap_or, nat_eq, nat_le, ⊤}
 use Rattle.iq_base.specs.declared.values.Value.{Value}
 use Rattle.iq_base.specs.declared.values.Value.TheVariants as value
 use Rattle.iq_base.specs.declared.values.Kind.TheVariants as kind
@@ -15,7 +15,7 @@ use Rattle.iq_parse.specs.declared.faults.ParseFault.TheVariants.{Unbuilt, NoMem
 use Rattle.iq_parse.specs.declared.tokens.Mark.{Mark as TheMark}
 use Rattle.iq_parse.specs.declared.tokens.Mark.TheVariants.{Create, Table, Insert, Into, Values, Select, From, Count, Int, Null, Open, Close, Comma, Star, Semicolon}
 use Rattle.iq_parse.specs.declared.tokens.Token.{Token}
-use Rattle.iq_parse.specs.declared.tokens.Token.TheVariants.{Mark, Name, Other, Number}
+use Rattle.iq_parse.specs.declared.tokens.Token.TheVariants.{Mark, Name, Number}
 use Rattle.iq_parse.specs.Tokens.{◌>>=◌, same_mark, tokens_of}
 
 -- what was read, and the tokens after it

@@ -1,5 +1,5 @@
 -- How a text is cut into tokens: always the longest token that the rest of the text begins with.
-use Rattle.std.specs.Prelude.{ℕ, zero, suc, ◌+◌, ◌-◌, ◌*◌, ◌^◌, Bool, true, false, ◌||◌, if◌then◌else◌, List, [], ◌∷◌, length, take, drop, map, fold, Option, Some, None, option_map, option_and_then, nat_eq, nat_lt, nat_le, slice_index, ℤ, pos, codes}
+use Rattle.std.specs.Prelude.{ℕ, zero, suc, ◌+◌, ◌-◌, ◌*◌, ◌^◌, Bool, true, false, ◌||◌, if◌then◌else◌, List, [], ◌∷◌, length, take, map, fold, Option, Some, None, option_map, nat_eq, nat_lt, nat_le, slice_index, ℤ, pos, codes}
 use Rattle.std.proofs.Common.{neg_ℤ}
 use Rattle.std.specs.List.{prefix_len}
 use Rattle.std.specs.Char.{is_ascii_digit, is_ascii_alphanumeric, to_ascii_lowercase}

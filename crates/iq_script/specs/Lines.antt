@@ -1,5 +1,6 @@
 -- The numbered lines of a script's bytes, and those that do something.
-use Rattle.std.specs.Prelude.{ℕ, ◌+◌, Bool, false, not, ◌&&◌, if◌then◌else◌, List, [], ◌∷◌, filter, nat_eq}
+use Rattle.std.specs.Prelude.{ℕ, ◌+◌, ◌-◌, Bool, false, not, if◌then◌else◌, List, [], ◌∷◌, length, take, filter, nat_eq, slice_index, codes}
+use Rattle.std.specs.List.{starts_with}
 use Rattle.iq_parse.specs.Tokens.{is_space}
 
 -- a byte before the pieces that the rest is cut into
@@ -14,9 +15,7 @@ pieces_of (b ∷ bytes) = if nat_eq b 10 then [] ∷ pieces_of bytes else put_be
 
 -- a piece without the CR at its end
 abbrev pub without_cr : List ℕ → List ℕ
-without_cr [] = []
-without_cr (b ∷ []) = if nat_eq b 13 then [] else b ∷ []
-without_cr (b ∷ c ∷ bytes) = b ∷ without_cr (c ∷ bytes)
+without_cr piece = if nat_eq (slice_index piece (length piece - 1)) 13 then take (length piece - 1) piece else piece
 
 -- a line: its number and its bytes
 pub record Numbered : Type 0 where
@@ -34,8 +33,7 @@ lines_of bytes = numbered 1 (pieces_of bytes)
 
 -- whether the bytes begin with --
 abbrev pub begins_comment : List ℕ → Bool
-begins_comment (a ∷ b ∷ bytes) = nat_eq a 45 && nat_eq b 45
-begins_comment _ = false
+begins_comment bytes = starts_with nat_eq bytes (codes "--")
 
 -- whether a line does something: it isn't of spaces alone, and -- isn't what follows its first spaces
 abbrev pub is_doing : List ℕ → Bool

@@ -1,7 +1,8 @@
 //! Scripts, read line by line.
-ghost use Rattle.std.specs.Prelude.{◌≡◌, ◌≤◌, IfOk, IfErr, length};
+ghost use Rattle.std.specs.Prelude.{◌≡◌, ◌≤◌, true, [], ◌∷◌, IfOk, IfErr, OnOk, length};
 ghost use Rattle.iq_model.specs.Scripts.{IsRunnable, the_node, the_session};
-ghost use Rattle.iq_script.specs.Scripts.{IsScriptOf, IsCause};
+ghost use Rattle.iq_script.specs.Lines.{is_doing};
+ghost use Rattle.iq_script.specs.Scripts.{AreLinesOf, IsScriptOf, IsCause, IsPut, Takes, IsLineCause, IsDeedOf, IsDeedCause};
 
 use crate::faults::{LineFault, ScriptRefusal};
 use crate::lines::{first_piece, is_doing, without_cr};
@@ -13,8 +14,20 @@ use std::alloc::Global;
 /// The most lines that a script may have beside empty ones and comments.
 const MOST_LINES: usize = 64;
 
+fn fault(line: u32) -> ScriptRefusal
+    ensures { result ≡ ScriptRefusal.ScriptFault line LineFault.Unbuilt }
+{
+    ScriptRefusal::ScriptFault {
+        line,
+        cause: LineFault::Unbuilt,
+    }
+}
+
 /// The statement of a line that does something.
-fn deed(alloc: Global, number: u32, text: &[u8]) -> Result<Deed, ScriptRefusal> {
+fn deed(alloc: Global, number: u32, text: &[u8]) -> Result<Deed, ScriptRefusal>
+    ensures ok { IfOk result (IsDeedOf text.now) }
+    ensures fault { IfErr result (IsDeedCause number text.now) }
+{
     match parse(alloc, text) {
         Ok(statement) => Ok(Deed::Statement(statement)),
         Err(ParseFault::Unbuilt) => Err(fault(number)),
@@ -22,20 +35,18 @@ fn deed(alloc: Global, number: u32, text: &[u8]) -> Result<Deed, ScriptRefusal> 
     }
 }
 
-fn fault(line: u32) -> ScriptRefusal {
-    ScriptRefusal::ScriptFault {
-        line,
-        cause: LineFault::Unbuilt,
-    }
-}
-
-/// Puts the statement of a line that does something at the end.
+/// Puts a line that does something at the end.
 fn put_line(
     alloc: Global,
     lines: &mut Vec<Line>,
     number: u32,
     text: &[u8],
-) -> Result<(), ScriptRefusal> {
+) -> Result<(), ScriptRefusal>
+    requires few { length lines.old.items ≤ 64 }
+    requires doing { is_doing text.now ≡ true }
+    ensures ok { OnOk result (IsPut (record { number = number; text = text.now }) lines.old.items lines.new.items) }
+    ensures fault { IfErr result (IsLineCause (record { number = number; text = text.now }) lines.old.items) }
+{
     if lines.len() == MOST_LINES {
         return Err(fault(number));
     }
@@ -48,45 +59,67 @@ fn put_line(
     Ok(())
 }
 
+/// Puts a line at the end, if it does something.
+fn take_line(
+    alloc: Global,
+    lines: &mut Vec<Line>,
+    number: u32,
+    text: &[u8],
+) -> Result<(), ScriptRefusal>
+    requires { length lines.old.items ≤ 64 }
+    ensures ok { OnOk result (Takes (is_doing text.now) (record { number = number; text = text.now }) lines.old.items lines.new.items) }
+    ensures fault { IfErr result (IsLineCause (record { number = number; text = text.now }) lines.old.items) }
+{
+    if is_doing(text) {
+        return put_line(alloc, lines, number, text);
+    }
+    Ok(())
+}
+
 /// The lines that do something, each with its statement.
 fn read_lines(alloc: Global, bytes: &[u8]) -> Result<Listed<Line>, ScriptRefusal>
     requires { length bytes.now ≤ 16777216 }
+    ensures ok { IfOk result (AreLinesOf bytes.now) }
+    ensures fault { IfErr result (IsCause bytes.now) }
 {
     let mut lines = Vec::new(alloc);
     let mut rest = bytes;
     let mut number = 0;
     'lines: while !rest.is_empty() {
         let (piece, behind) = first_piece(rest);
-        let text = without_cr(piece);
         number += 1;
-        if is_doing(text) {
-            put_line(alloc, &mut lines, number, text)?;
-        }
+        take_line(alloc, &mut lines, number, without_cr(piece))?;
         rest = behind;
     }
     Ok(Listed::from_vec(lines))
 }
 
-fn nodes(alloc: Global) -> Result<Listed<NodeSpec>, ScriptRefusal> {
+/// The one node, a coordinator.
+fn nodes(alloc: Global) -> Result<Listed<NodeSpec>, ScriptRefusal>
+    ensures ok { IfOk result (λ nodes. nodes ≡ the_node ∷ []) }
+    ensures err { IfErr result (λ e. e ≡ ScriptRefusal.NoMemory) }
+{
+    let node = NodeSpec {
+        name: Name::of("c").unwrap(),
+        kind: NodeKind::Coordinator,
+    };
     let mut nodes = Listed::new(alloc);
-    if let Some(name) = Name::of("c") {
-        nodes.push(NodeSpec {
-            name,
-            kind: NodeKind::Coordinator,
-        })?;
-    }
+    nodes.push(node)?;
     Ok(nodes)
 }
 
-fn sessions(alloc: Global, lines: u32) -> Result<Listed<SessionSpec>, ScriptRefusal> {
+/// The one session, which has so many lines.
+fn sessions(alloc: Global, lines: u32) -> Result<Listed<SessionSpec>, ScriptRefusal>
+    ensures ok { IfOk result (λ sessions. sessions ≡ the_session lines ∷ []) }
+    ensures err { IfErr result (λ e. e ≡ ScriptRefusal.NoMemory) }
+{
+    let session = SessionSpec {
+        name: Name::of("s").unwrap(),
+        node: 0,
+        lines,
+    };
     let mut sessions = Listed::new(alloc);
-    if let Some(name) = Name::of("s") {
-        sessions.push(SessionSpec {
-            name,
-            node: 0,
-            lines,
-        })?;
-    }
+    sessions.push(session)?;
     Ok(sessions)
 }
 
@@ -100,10 +133,11 @@ pub fn read_script(alloc: Global, bytes: &[u8]) -> Result<Script, ScriptRefusal>
     ensures runnable { IfOk result IsRunnable }
 {
     let lines = read_lines(alloc, bytes)?;
-    let count = lines.len() as u32;
+    let nodes = nodes(alloc)?;
+    let sessions = sessions(alloc, lines.len() as u32)?;
     Ok(Script {
-        nodes: nodes(alloc)?,
-        sessions: sessions(alloc, count)?,
+        nodes,
+        sessions,
         lines,
     })
 }

@@ -1,7 +1,8 @@
 use crate::{LineFault, ScriptRefusal, read_script};
 use std::test::Fail;
 
-const ROW: &str = "CREATE TABLE t (x INT NULL, y INT NULL)\nINSERT INTO t VALUES (1, 10), (2, NULL)\r\n\n -- c\n\tselect X, y from T ;";
+const ROW: &str =
+    "CREATE TABLE t (x INT NULL, y INT NULL)\nINSERT INTO t VALUES (1, 10), (2, NULL)\r\n\n -- c\n\tselect X, y from T ;";
 
 #[test]
 fn a_script_is_read(rt: HostRuntime) -> Result<(), Fail> {

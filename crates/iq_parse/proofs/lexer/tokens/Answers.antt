@@ -1,4 +1,4 @@
-use Rattle.std.proofs.Common.{◌≡◌, ◌<◌, Some, None, length, sym, ◌∙◌}
+use Rattle.std.proofs.Common.{◌≡◌, ◌<◌, Some, sym, ◌∙◌}
 use Rattle.std.proofs.lemmas.Bool.{eqb-true}
 use Rattle.iq_parse.specs.Tokens.{front_of}
 use Rattle.iq_parse.proofs.Cutting.{turn_space, turn_none, turn_token, turn_end, is_some_length}

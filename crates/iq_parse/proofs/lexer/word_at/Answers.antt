@@ -1,5 +1,3 @@
-use Rattle.std.proofs.Common.{sym, ap, subst}
-use Rattle.std.specs.Str.{IsAscii}
 use Rattle.iq_parse.proofs.Cutting.{word_is_ascii}
 use Rattle.iq_parse.proofs.lexer.word_at.Goals as goal
 

@@ -1,6 +1,5 @@
-use Rattle.std.proofs.Common.{◌≡◌, ◌≤◌, ◌+◌, ◌-◌, length}
-use Rattle.iq_parse.specs.Reading.{listed_at}
-use Rattle.iq_parse.proofs.Lists.{with_front, IsSoFar}
+use Rattle.std.proofs.Common.{length}
+use Rattle.iq_parse.proofs.Lists.{IsSoFar}
 use Rattle.iq_parse.proofs.parts.list.Given as goal
 
 abbrev pub invariant-parts : goal.invariant-parts
