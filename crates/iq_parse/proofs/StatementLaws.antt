@@ -239,9 +239,12 @@ pub read_only : (text : List ℕ) (s : Statement) → IsStatementOf text s → r
 unfolding read
 read_only text s is = rw (le-leb _ _ is.short, is.cut) (statement_only is.tokens s is.spells)
 
+pub one_statement : (text : List ℕ) (s t : Statement) → IsStatementOf text s → IsStatementOf text t → s ≡ t
+one_statement text s t is also = some_is s t (sym (read_only text s is) ∙ read_only text t also)
+
 -- ---- what the reader returned
 
-pub is_found : (text : List ℕ) (r : Result Statement ParseFault) → Gives (λ s. s) r (read text) → IfOk r (λ s. IsStatementOf text s)
+pub is_found : (text : List ℕ) (r : Result Statement ParseFault) → Gives (λ s. s) r (read text) → IfOk r (IsStatementOf text)
 is_found text (Ok s) given = read_found text s given
 is_found text (Err e) given = tt
 

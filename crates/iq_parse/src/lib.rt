@@ -16,4 +16,7 @@ mod tokens;
 mod words;
 
 pub use faults::ParseFault;
-pub use texts::parse;
+pub use texts::{one_statement, parse};
+
+#[cfg(test)]
+mod tests;

@@ -29,10 +29,15 @@ fn read(alloc: Global, text: &[u8]) -> Result<Statement, ParseFault>
 /// The statement that the bytes of one line spell, in time linear in their number. Letter case doesn't count, spaces and
 /// tabs may stand between tokens, and a `;` may end the text. `Unbuilt` comes exactly where no statement is spelled.
 pub fn parse(alloc: Global, text: &[u8]) -> Result<Statement, ParseFault>
-    ensures found { IfOk result (λ s. IsStatementOf text.now s) }
+    ensures found { IfOk result (IsStatementOf text.now) }
     ensures built { IfOk result IsBuilt }
     ensures only { (s : TheStatement) → IsStatementOf text.now s → Gives (λ x. x) result (Some s) }
     ensures unbuilt { result ≡ Err ParseFault.Unbuilt → IsOff text.now }
 {
     read(alloc, text)
 }
+
+/// A text spells one statement at most.
+pub fn one_statement()
+    ensures { (text : List ℕ) (s t : TheStatement) → IsStatementOf text s → IsStatementOf text t → s ≡ t }
+{}
