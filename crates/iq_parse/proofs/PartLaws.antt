@@ -15,7 +15,7 @@ use Rattle.iq_parse.specs.declared.tokens.Token.TheVariants.{Mark, Name, Other, 
 use Rattle.iq_parse.specs.Tokens.{◌>>=◌, same_mark}
 use Rattle.iq_parse.specs.Grammar.{listed, column_spelling, value_spelling, tuple_spelling, item_spelling}
 use Rattle.iq_parse.specs.Reading.{Taken, taken, mark_at, name_at, value_at, list_at, tuple_at, int_column, column_at, columns_at, plain_at, count_at, items_from, items_at}
-use Rattle.iq_parse.proofs.Steps.{AreTokens, bind_some, some_is, chosen_some, Takes, Takes-then, mark_takes, mark_again, name_takes, name_again}
+use Rattle.iq_parse.proofs.Steps.{AreTokens, bind_some, read_as, chosen_some, Takes, Takes-then, mark_takes, mark_again, name_takes, name_again}
 use Rattle.iq_parse.proofs.ListLaws.{listed_takes, list_again}
 
 -- a mark that comes first is no other mark
@@ -37,7 +37,7 @@ pub value_takes : (ts : List Token) (x : Taken Value) → AreTokens ts → value
 unfolding value_at
 value_takes [] x sound e = absurd cc
 value_takes (Number n ∷ ts) x sound e =
-    subst (λ (y : Taken Value). Takes (Number n ∷ ts) (value_spelling y.value) y.rest × IsCell y.value) (some_is (taken (value.Int n) ts) x e) (record { parts = refl; sound = sound.1 }, sound.0)
+    read_as (λ (y : Taken Value). Takes (Number n ∷ ts) (value_spelling y.value) y.rest × IsCell y.value) (taken (value.Int n) ts) x e (record { parts = refl; sound = sound.1 }, sound.0)
 value_takes (Mark k ∷ ts) x sound e =
     let c = chosen_some (same_mark k Null) (taken value.Null ts) x e in
     let gone : Takes (Mark k ∷ ts) (Mark Null ∷ []) ts = mark_takes Null (Mark k ∷ ts) ts sound (chosen_mark k ts c.0) in
@@ -70,7 +70,7 @@ tuple_takes ts x sound e =
     let e12 = Takes-then a.0 (listed value_spelling b.0.value) b.0.rest (Mark Close ∷ []) c.0 t1.takes t2 in
     let e02 : Takes ts (tuple_spelling b.0.value) c.0 = Takes-then ts (Mark Open ∷ []) a.0 (listed value_spelling b.0.value ++ Mark Close ∷ []) c.0 t0 e12 in
     let made : IsTuple b.0.value = record { some = t1.some; each = t1.each } in
-    subst (λ (y : Taken (List Value)). Takes ts (tuple_spelling y.value) y.rest × IsTuple y.value) (some_is (taken b.0.value c.0) x c.2) (e02, made)
+    read_as (λ (y : Taken (List Value)). Takes ts (tuple_spelling y.value) y.rest × IsTuple y.value) (taken b.0.value c.0) x c.2 (e02, made)
 
 pub tuple_again : (values : List Value) (rest : List Token) → IsTuple values → tuple_at (tuple_spelling values ++ rest) ≡ Some (taken values rest)
 unfolding tuple_at
@@ -96,7 +96,7 @@ column_takes ts x sound e =
     let e12 = Takes-then a.0.rest (Mark Int ∷ []) b.0 (Mark Null ∷ []) c.0 t1 t2 in
     let e02 : Takes ts (column_spelling (int_column a.0.value)) c.0 = Takes-then ts (Name a.0.value ∷ []) a.0.rest (Mark Int ∷ Mark Null ∷ []) c.0 t0.0 e12 in
     let made : IsIntColumn (int_column a.0.value) = record { name = t0.1; kind = refl; null = refl } in
-    subst (λ (y : Taken Column). Takes ts (column_spelling y.value) y.rest × IsIntColumn y.value) (some_is (taken (int_column a.0.value) c.0) x c.2) (e02, made)
+    read_as (λ (y : Taken Column). Takes ts (column_spelling y.value) y.rest × IsIntColumn y.value) (taken (int_column a.0.value) c.0) x c.2 (e02, made)
 
 -- a column of numbers is known by its name
 int_column_is : (column : Column) → IsIntColumn column → int_column column.name ≡ column
@@ -133,7 +133,7 @@ unfolding plain_at
 plain_takes ts x sound e =
     let a = bind_some (name_at ts) (λ name. Some (taken (item.Plain name.value) name.rest)) x e in
     let t = name_takes ts a.0 sound a.1 in
-    subst (λ (y : Taken Item). Takes ts (item_spelling y.value) y.rest × IsPlain y.value) (some_is (taken (item.Plain a.0.value) a.0.rest) x a.2) t
+    read_as (λ (y : Taken Item). Takes ts (item_spelling y.value) y.rest × IsPlain y.value) (taken (item.Plain a.0.value) a.0.rest) x a.2 t
 
 plain_again : (i : Item) (rest : List Token) → IsPlain i → plain_at (item_spelling i ++ rest) ≡ Some (taken i rest)
 unfolding plain_at
@@ -163,7 +163,7 @@ count_takes ts x sound e =
     let t2 = mark_takes Close b.0 c.0 t1.sound c.1 in
     let e12 = Takes-then a.0 (Mark Star ∷ []) b.0 (Mark Close ∷ []) c.0 t1 t2 in
     let e02 = Takes-then ts (Mark Open ∷ []) a.0 (Mark Star ∷ Mark Close ∷ []) c.0 t0 e12 in
-    subst (λ (y : Taken (List Item)). Takes ts (Mark Open ∷ Mark Star ∷ Mark Close ∷ []) y.rest × (y.value ≡ item.CountAll ∷ [])) (some_is (taken (item.CountAll ∷ []) c.0) x c.2) (e02, refl)
+    read_as (λ (y : Taken (List Item)). Takes ts (Mark Open ∷ Mark Star ∷ Mark Close ∷ []) y.rest × (y.value ≡ item.CountAll ∷ [])) (taken (item.CountAll ∷ []) c.0) x c.2 (e02, refl)
 
 -- items that are plain one by one are items
 plain_items : (items : List Item) → 0 < length items → AllByRecursion IsPlain items → AreItems items

@@ -20,7 +20,7 @@ use Rattle.iq_parse.specs.declared.tokens.Token.TheVariants.{Mark, Name, Other, 
 use Rattle.iq_parse.specs.Tokens.{◌>>=◌, same_mark, tokens_of}
 use Rattle.iq_parse.specs.Grammar.{listed, column_spelling, tuple_spelling, item_spelling, spelling, Spells, IsStatementOf, IsOff}
 use Rattle.iq_parse.specs.Reading.{Taken, taken, Gives, mark_at, name_at, list_at, tuple_at, columns_at, items_at, create_at, insert_at, plain_select, select_at, statement_at, is_end, statement_of, read}
-use Rattle.iq_parse.proofs.Steps.{AreTokens, bind_some, some_is, chosen_some, Takes, Takes-then, mark_takes, mark_again, name_takes, name_again}
+use Rattle.iq_parse.proofs.Steps.{AreTokens, bind_some, some_is, read_as, chosen_some, Takes, Takes-then, mark_takes, mark_again, name_takes, name_again}
 use Rattle.iq_parse.proofs.ListLaws.{listed_takes, list_again}
 use Rattle.iq_parse.proofs.PartLaws.{tuple_takes, tuple_again, tuple_long, columns_take, columns_again, items_take, items_again}
 use Rattle.iq_parse.proofs.Sound.{tokens_sound}
@@ -53,7 +53,7 @@ create_takes ts x sound e =
     let e04 = Takes-then ts (Mark Table ∷ []) a.0 (Name b.0.value ∷ Mark Open ∷ (columns ++ Mark Close ∷ [])) f.0 t0 e14 in
     let made : Taken Statement = taken (statement.Write (write.CreateTable b.0.value (record { columns = d.0.value }))) f.0 in
     let whole : Takes (Mark Create ∷ ts) (spelling made.value) f.0 = Takes-then (Mark Create ∷ ts) (Mark Create ∷ []) ts (Mark Table ∷ Name b.0.value ∷ Mark Open ∷ (columns ++ Mark Close ∷ [])) f.0 (first_word Create ts sound) e04 in
-    subst (TakesStatement (Mark Create ∷ ts)) (some_is made x f.2) (whole, (t1.1, t3.1))
+    read_as (TakesStatement (Mark Create ∷ ts)) made x f.2 (whole, (t1.1, t3.1))
 
 insert_takes : (ts : List Token) (x : Taken Statement) → AreTokens ts → insert_at ts ≡ Some x → TakesStatement (Mark Insert ∷ ts) x
 unfolding insert_at
@@ -73,7 +73,7 @@ insert_takes ts x sound e =
     let made : Taken Statement = taken (statement.Write (write.Insert b.0.value d.0.value)) d.0.rest in
     let whole : Takes (Mark Insert ∷ ts) (spelling made.value) d.0.rest = Takes-then (Mark Insert ∷ ts) (Mark Insert ∷ []) ts (Mark Into ∷ Name b.0.value ∷ Mark Values ∷ rows) d.0.rest (first_word Insert ts sound) e03 in
     let tuples : AreTuples d.0.value = record { some = t3.some; each = t3.each } in
-    subst (TakesStatement (Mark Insert ∷ ts)) (some_is made x d.2) (whole, (t1.1, tuples))
+    read_as (TakesStatement (Mark Insert ∷ ts)) made x d.2 (whole, (t1.1, tuples))
 
 select_takes : (ts : List Token) (x : Taken Statement) → AreTokens ts → select_at ts ≡ Some x → TakesStatement (Mark Select ∷ ts) x
 unfolding select_at
@@ -90,7 +90,7 @@ select_takes ts x sound e =
     let made : Taken Statement = taken (plain_select a.0.value c.0.value) c.0.rest in
     let whole : Takes (Mark Select ∷ ts) (spelling made.value) c.0.rest = Takes-then (Mark Select ∷ ts) (Mark Select ∷ []) ts (items ++ Mark From ∷ Name c.0.value ∷ []) c.0.rest (first_word Select ts sound) e02 in
     let plain : IsBuilt made.value = record { table = t2.1; items = t0.1; explain = refl; cond = refl; group = refl; order = refl } in
-    subst (TakesStatement (Mark Select ∷ ts)) (some_is made x c.2) (whole, plain)
+    read_as (TakesStatement (Mark Select ∷ ts)) made x c.2 (whole, plain)
 
 statement_takes : (ts : List Token) (x : Taken Statement) → AreTokens ts → statement_at ts ≡ Some x → TakesStatement ts x
 unfolding statement_at

@@ -29,6 +29,10 @@ bind_some (Some x) f y e = (x, refl, e)
 pub some_is : {A : Type 0} (x y : A) → Some x ≡ Some y → x ≡ y
 some_is x y e = cc
 
+-- what holds of what was made holds of what was read
+pub read_as : {A : Type 0} (P : Taken A → Type 0) (made x : Taken A) → Some made ≡ Some x → P made → P x
+read_as P made x e p = subst P (some_is made x e) p
+
 -- a test that passed
 pub chosen_some : {A : Type 0} (b : Bool) (x : A) (y : A) → cond b (Some x) None ≡ Some y → (b ≡ true) × (x ≡ y)
 chosen_some true x y e = (refl, cc)
@@ -66,7 +70,7 @@ unfolding name_at
 name_takes [] x sound e = absurd cc
 name_takes (Mark k ∷ ts) x sound e = absurd cc
 name_takes (Name name ∷ ts) x sound e =
-    subst (λ (y : Taken (List ℕ)). Takes (Name name ∷ ts) (Name y.value ∷ []) y.rest × IsName y.value) (some_is (taken name ts) x e) (record { parts = refl; sound = sound.1 }, sound.0)
+    read_as (λ (y : Taken (List ℕ)). Takes (Name name ∷ ts) (Name y.value ∷ []) y.rest × IsName y.value) (taken name ts) x e (record { parts = refl; sound = sound.1 }, sound.0)
 name_takes (Other ∷ ts) x sound e = absurd cc
 name_takes (Number n ∷ ts) x sound e = absurd cc
 

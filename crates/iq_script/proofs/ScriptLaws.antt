@@ -1,5 +1,5 @@
 -- Reading the lines of a script one by one, and the laws about scripts and faults.
-use Rattle.std.proofs.Common.{◌≡◌, ℕ, ◌+◌, ◌<◌, ◌≤◌, Bool, true, false, List, [], ◌∷◌, ◌++◌, length, refl, sym, ap, subst, ◌∙◌, append_assoc, ⊎_elim, arith, inl, inr}
+use Rattle.std.proofs.Common.{◌≡◌, ℕ, ◌+◌, ◌<◌, ◌≤◌, Bool, true, false, List, [], ◌∷◌, ◌++◌, length, refl, sym, ap, subst, ◌∙◌, append_assoc, ⊎_elim, ◌⊎◌, arith, inl, inr}
 use Rattle.std.specs.Prelude.{filter}
 use Rattle.std.specs.List.{AllZip, AllByRecursion}
 use Rattle.std.proofs.lemmas.Bool.{cases_Bool}
@@ -203,3 +203,27 @@ script_or_fault bytes script number is fault =
     let zip = subst (λ (ds : List Numbered). AllZip IsLineOf ds script.lines) fault.place is.lines.each in
     let more = zip_at fault.before fault.behind (line_of number fault.text) script.lines zip in
     ⊎_elim (λ (e : length fault.before ≡ 64). absurd (omega (arith, more.1, is.lines.few))) (λ (off : IsOff fault.text). off more.0.0 more.0.1) fault.fault
+
+-- of two lines of one list, each with good ones before it and at fault itself, neither stands before the other
+same_place : (xs ys us vs : List Numbered) (d e : Numbered) (k : ℕ) → xs ++ d ∷ us ≡ ys ++ e ∷ vs → AllByRecursion IsOfGrammar xs → AllByRecursion IsOfGrammar ys
+    → length xs + k ≤ 64 → length ys + k ≤ 64 → (length xs + k ≡ 64) ⊎ IsOff d.text → (length ys + k ≡ 64) ⊎ IsOff e.text → d ≡ e
+same_place [] [] us vs d e k same good also few less h g = cc
+same_place [] (y ∷ ys) us vs d e k same good also few less h g =
+    let first : y ≡ d = cc in
+    ⊎_elim (λ (full : 0 + k ≡ 64). absurd (omega arith)) (λ (off : IsOff d.text). absurd (subst (λ (x : Numbered). IsOff x.text → ⊥) first (λ (o : IsOff y.text). o also.0.0 also.0.1) off)) h
+same_place (x ∷ xs) [] us vs d e k same good also few less h g =
+    let first : x ≡ e = cc in
+    ⊎_elim (λ (full : 0 + k ≡ 64). absurd (omega arith)) (λ (off : IsOff e.text). absurd (subst (λ (z : Numbered). IsOff z.text → ⊥) first (λ (o : IsOff x.text). o good.0.0 good.0.1) off)) g
+same_place (x ∷ xs) (y ∷ ys) us vs d e k same good also few less h g =
+    let rest : xs ++ d ∷ us ≡ ys ++ e ∷ vs = cc in
+    same_place xs ys us vs d e (k + 1) rest good.1 also.1 (omega arith) (omega arith)
+    (⊎_elim (λ (full : length (x ∷ xs) + k ≡ 64). inl (omega arith)) (λ (off : IsOff d.text). inr off) h)
+    (⊎_elim (λ (full : length (y ∷ ys) + k ≡ 64). inl (omega arith)) (λ (off : IsOff e.text). inr off) g)
+
+nothing_before : (before : List Numbered) (text : List ℕ) → (length before ≡ 64) ⊎ IsOff text → (length before + 0 ≡ 64) ⊎ IsOff text
+nothing_before before text = ⊎_elim (λ (full : length before ≡ 64). inl (omega arith)) (λ (off : IsOff text). inr off)
+
+pub one_fault : (bytes : List ℕ) (a b : ℕ) → IsFirstFault bytes a → IsFirstFault bytes b → a ≡ b
+one_fault bytes a b h g =
+    let same = same_place h.before g.before h.behind g.behind (line_of a h.text) (line_of b g.text) 0 (sym h.place ∙ g.place) h.good g.good (omega (arith, h.few)) (omega (arith, g.few)) (nothing_before h.before h.text h.fault) (nothing_before g.before g.text g.fault) in
+    ap (λ (line : Numbered). line.number) same

@@ -12,3 +12,8 @@ pub fn one_script()
 pub fn script_or_fault()
     ensures { (bytes : List ℕ) (script : Script) (line : ℕ) → IsScriptOf bytes script → IsFirstFault bytes line → ⊥ }
 {}
+
+/// Bytes have one first fault at most.
+pub fn one_fault()
+    ensures { (bytes : List ℕ) (a b : ℕ) → IsFirstFault bytes a → IsFirstFault bytes b → a ≡ b }
+{}

@@ -11,7 +11,7 @@ mod lines;
 mod scripts;
 
 pub use faults::{LineFault, ScriptRefusal};
-pub use laws::{one_script, script_or_fault};
+pub use laws::{one_fault, one_script, script_or_fault};
 pub use scripts::read_script;
 
 #[cfg(test)]
