@@ -1,0 +1,5 @@
+use Rattle.iq_script.proofs.ScriptLaws.{one_script}
+use Rattle.iq_script.proofs.laws.one_script.Goals as goal
+
+pub returns : goal.returns
+returns c = one_script

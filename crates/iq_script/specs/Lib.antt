@@ -1,0 +1,3 @@
+pub mod Lines
+pub mod Scripts
+pub use Rattle.iq_model.specs.Scripts as Runnable
