@@ -1,2 +1,3 @@
+mod Tuples
 pub mod LineLaws
 pub mod ScriptLaws
