@@ -47,6 +47,7 @@ pub fn cell_put(kind: Kind, value: &Value, into: &mut [u8])
 pub fn cell_get(kind: Kind, from: &[u8]) -> Result<Value, BadCell>
     requires { length from.now ≡ width kind }
     ensures ok { IfOk result (λ value. IsCell kind value from.now) }
+    ensures only { IfOk result (λ value. (other : Value) → IsCell kind other from.now → other ≡ value) }
     ensures err { OnErr result ((value : Value) → ¬ (IsCell kind value from.now)) }
 {
     match from[0] {
