@@ -1,2 +1,3 @@
 pub mod CellBytes
 pub mod CellLaws
+pub mod PagesInMemory

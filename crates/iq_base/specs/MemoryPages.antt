@@ -1,5 +1,5 @@
 -- Pages that memory keeps, and which calls on them fail.
-use Rattle.std.specs.Prelude.{◌≡◌, ◌<◌, ℕ, ◌+◌, ◌-◌, ◌^◌, min, Bool, List, [], ◌∷◌, Option, Some, None, ◌==◌, nat_eq, nat_lt, if◌then◌else◌}
+use Rattle.std.specs.Prelude.{◌≡◌, ◌<◌, ℕ, ◌+◌, ◌-◌, ◌^◌, min, ◌≢◌, Bool, length, slice_index_or, slice_set, List, [], ◌∷◌, ◌++◌, Option, Some, None, nat_eq, nat_lt, if◌then◌else◌}
 use Rattle.std.specs.List.{list_any}
 use Rattle.iq_base.specs.declared.memory_objects.Object.{Object}
 use Rattle.iq_base.specs.Pages.{Pages}
@@ -7,7 +7,24 @@ use Rattle.iq_base.specs.Pages.{Pages}
 -- the pages of the object of that number; an object that was never made has none
 abbrev pub pages_in : List Object → ℕ → Pages
 pages_in [] number = []
-pages_in (object ∷ others) number = if object.number == number then object.pages.items else pages_in others number
+pages_in (object ∷ others) number = if nat_eq object.number number then object.pages.items else pages_in others number
+
+-- one number's pages are changed, and those of every other number are as before
+pub record ChangesPages (number : ℕ) (pages : Pages) (before after : List Object) : Type 0 where
+  pub here : pages_in after number ≡ pages
+  pub others : (other : ℕ) → other ≢ number → pages_in after other ≡ pages_in before other
+
+-- at this place stands the object of that number, and changing it changes its pages alone
+pub record IsPlaceOf (objects : List Object) (number place : ℕ) : Type 0 where
+  pub within : place < length objects
+  pub number_is : (d : Object) → (slice_index_or objects place d).number ≡ number
+  pub pages_are : (d : Object) → pages_in objects number ≡ (slice_index_or objects place d).pages.items
+  pub changed : (object : Object) → object.number ≡ number → ChangesPages number object.pages.items objects (slice_set objects place object)
+
+-- no object has that number, and adding one changes its pages alone
+pub record IsMissing (objects : List Object) (number : ℕ) : Type 0 where
+  pub none : pages_in objects number ≡ []
+  pub added : (object : Object) → object.number ≡ number → ChangesPages number object.pages.items objects (objects ++ object ∷ [])
 
 -- the calls so far, the numbers, from 1, of those that are to fail, and how many failed
 pub record Plan : Type 0 where
