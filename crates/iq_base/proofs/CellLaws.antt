@@ -1,5 +1,5 @@
 -- A cell tells its value: two values of one kind have the same cell only where they are the same.
-use Rattle.std.proofs.Common.{◌≡◌, ℕ, ℤ, ◌+◌, ◌-◌, ◌<◌, ◌^◌, List, [], ◌∷◌, ◌++◌, length, take, replicate, slice_index, sym, ap, ◌∙◌, refl, arith, FitsSigned, Fits, w32, w64}
+use Rattle.std.proofs.Common.{◌≡◌, ℕ, ℤ, ◌+◌, ◌-◌, ◌<◌, ◌^◌, List, ◌∷◌, ◌++◌, length, take, replicate, slice_index, sym, ap, ◌∙◌, refl, arith, FitsSigned, w32, w64}
 use Rattle.std.proofs.Math.Seq.{take-append_seam}
 use Rattle.std.proofs.Math.Facts.{Fits-of_z}
 use Rattle.std.specs.Int.{cast_signed, cast_unsigned, to_le_bytes, from_le_bytes}
@@ -10,7 +10,7 @@ use Rattle.iq_base.specs.declared.values.Kind.{Kind}
 use Rattle.iq_base.specs.declared.values.Kind.TheVariants as kinds
 use Rattle.iq_base.specs.declared.values.Value.{Value}
 use Rattle.iq_base.specs.declared.values.Value.TheVariants as values
-use Rattle.iq_base.specs.Cells.{width, IsOf, padded, cell, IsCell}
+use Rattle.iq_base.specs.Cells.{IsOf, padded, cell, IsCell}
 
 -- the bytes of a number of 32 bits tell it
 int_tells : (a b : ℤ) → FitsSigned w32 a → FitsSigned w32 b → to_le_bytes w32 (cast_unsigned w32 a) ≡ to_le_bytes w32 (cast_unsigned w32 b) → a ≡ b

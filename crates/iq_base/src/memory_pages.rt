@@ -1,5 +1,5 @@
 //! A sink of pages in memory, which fails at listed calls.
-ghost use Rattle.std.specs.Prelude.{◌≡◌, ◌≤◌, ◌<◌, ℕ, [], Some, length, is_err, IsTrue, IsErr, IfErr, false};
+ghost use Rattle.std.specs.Prelude.{◌≡◌, ◌≤◌, ◌<◌, ℕ, [], Some, length, is_err, IsTrue, IsOk, false};
 ghost use Rattle.iq_base.specs.MemoryPages.{pages_in};
 
 use crate::memory_calls::Calls;
@@ -40,9 +40,9 @@ impl MemoryPages {
 }
 
 impl PageSource for MemoryPages {
-    ghost use Rattle.iq_base.specs.MemoryView.{memory_pages, memory_plan, memory_reads};
-    ghost use Rattle.iq_base.specs.MemoryPages.{is_listed, after_call};
-    ghost use Rattle.iq_base.specs.Pages.{seen, ReadsPage};
+    ghost use Rattle.iq_base.specs.MemoryView.{memory_pages, memory_plan, memory_reads, memory_seen};
+    ghost use Rattle.iq_base.specs.MemoryPages.{is_listed, FollowsPlan};
+    ghost use Rattle.iq_base.specs.Pages.{ReadsPage};
 
     ghost counts = { λ s object. length (memory_pages s object) };
 
@@ -56,7 +56,12 @@ impl PageSource for MemoryPages {
         memory_objects::count_of(&self.objects, object) as u32
     }
 
-    fn page(&mut self, object: u32, n: u32, into: &mut Page) -> Result<(), PageFault> {
+    fn page(&mut self, object: u32, n: u32, into: &mut Page) -> Result<(), PageFault>
+        requires { n < length (memory_pages self.old object) }
+        ensures read { ReadsPage object n into.new result (memory_seen self.old) (memory_seen self.new) }
+        ensures plan { FollowsPlan result (memory_plan self.old) (memory_plan self.new) }
+        ensures sure { is_listed (memory_plan self.old) ≡ false → IsOk result }
+    {
         self.reads = self.reads.saturating_add(1);
         self.calls.call().map_err(PageFault::Refused)?;
         memory_objects::read(&self.objects, object, n as usize, into);
@@ -65,5 +70,42 @@ impl PageSource for MemoryPages {
 
     fn faults(&self) -> u64 {
         self.calls.faults()
+    }
+}
+
+impl PageSink for MemoryPages {
+    ghost use Rattle.iq_base.specs.MemoryView.{memory_pages, memory_plan, memory_reads, memory_seen};
+    ghost use Rattle.iq_base.specs.MemoryPages.{is_listed, FollowsPlan};
+    ghost use Rattle.iq_base.specs.Pages.{SetsPage, PushesPage, MakesObject};
+
+    fn set_page(&mut self, object: u32, n: u32, from: &Page) -> Result<(), PageFault>
+        requires { n < length (memory_pages self.old object) }
+        ensures written { SetsPage object n from.now result (memory_seen self.old) (memory_seen self.new) }
+        ensures plan { FollowsPlan result (memory_plan self.old) (memory_plan self.new) }
+        ensures sure { is_listed (memory_plan self.old) ≡ false → IsOk result }
+    {
+        self.calls.call().map_err(PageFault::Refused)?;
+        memory_objects::write(&mut self.objects, object, n as usize, from);
+        Ok(())
+    }
+
+    fn push_page(&mut self, object: u32, from: &Page) -> Result<(), PageFault>
+        requires { length (memory_pages self.old object) < 63504 }
+        ensures written { PushesPage object from.now result (memory_seen self.old) (memory_seen self.new) }
+        ensures plan { FollowsPlan result (memory_plan self.old) (memory_plan self.new) }
+    {
+        self.calls.call().map_err(PageFault::Refused)?;
+        memory_objects::push(&mut self.objects, self.alloc, object, from)?;
+        Ok(())
+    }
+
+    fn new_object(&mut self, object: u32) -> Result<(), PageFault>
+        ensures made { MakesObject object result (memory_seen self.old) (memory_seen self.new) }
+        ensures plan { FollowsPlan result (memory_plan self.old) (memory_plan self.new) }
+        ensures sure { is_listed (memory_plan self.old) ≡ false → IsOk result }
+    {
+        self.calls.call().map_err(PageFault::Refused)?;
+        memory_objects::clear(&mut self.objects, object);
+        Ok(())
     }
 }
