@@ -20,7 +20,8 @@ pub struct BadCell;
 
 /// How many bytes a cell of a column has: 5 for INT, 9 for BIGINT, and two more than the greatest length for VARCHAR.
 pub fn width(kind: Kind) -> usize
-    ensures { result ≡ width kind }
+    ensures value { result ≡ width kind }
+    ensures small { (2 ≤ result) × (result ≤ 257) }
 {
     match kind {
         Kind::Int => 5,

@@ -1,0 +1,29 @@
+-- Where the cells of a column lie in the pages of its object.
+use Rattle.std.specs.Prelude.{◌≡◌, ◌<◌, ◌≤◌, ℕ, ◌+◌, ◌*◌, ◌/◌, List, length, take, drop, slice_index_or, []}
+use Rattle.iq_base.specs.declared.values.Kind.{Kind}
+use Rattle.iq_base.specs.declared.values.Value.{Value}
+use Rattle.iq_base.specs.declared.values.Value.TheVariants.{Null}
+use Rattle.iq_base.specs.Cells.{width, IsCell}
+use Rattle.iq_base.specs.Pages.{Pages}
+
+-- how many cells of a column a page has
+abbrev pub per_page : Kind → ℕ
+per_page kind = 1008 / width kind
+
+-- the bytes of a cell of a page, by its place among the page's cells
+abbrev pub cell_in : Kind → List ℕ → ℕ → List ℕ
+cell_in kind page i = take (width kind) (drop (i * width kind) page)
+
+-- a value of a list, or NULL past its end
+abbrev pub value_at : ℕ → List Value → Value
+value_at i values = slice_index_or values i Null
+
+-- a page of a list, or none past its end
+abbrev pub page_at : ℕ → Pages → List ℕ
+page_at p pages = slice_index_or pages p []
+
+-- the pages hold the values in order: page p begins with value per_page * p; pages and cells behind the last value hold anything
+pub record Holds (kind : Kind) (pages : Pages) (values : List Value) : Type 0 where
+  pub enough : length values ≤ per_page kind * length pages
+  pub few : length pages ≤ 63504
+  pub cells : (p i : ℕ) → i < per_page kind → per_page kind * p + i < length values → IsCell kind (value_at (per_page kind * p + i) values) (cell_in kind (page_at p pages) i)
