@@ -1,9 +1,9 @@
 -- Where the cells of a column lie in the pages of its object.
-use Rattle.std.specs.Prelude.{◌≡◌, ◌<◌, ◌≤◌, ℕ, ◌+◌, ◌*◌, ◌/◌, List, length, take, drop, slice_index_or, []}
+use Rattle.std.specs.Prelude.{◌≡◌, ◌<◌, ◌≤◌, ℕ, ◌+◌, ◌*◌, ◌/◌, List, length, take, drop, slice_index_or, [], map}
 use Rattle.iq_base.specs.declared.values.Kind.{Kind}
 use Rattle.iq_base.specs.declared.values.Value.{Value}
 use Rattle.iq_base.specs.declared.values.Value.TheVariants.{Null}
-use Rattle.iq_base.specs.Cells.{width, IsCell}
+use Rattle.iq_base.specs.Cells.{width, IsOf, IsCell}
 use Rattle.iq_base.specs.Pages.{Pages}
 
 -- how many cells of a column a page has
@@ -27,3 +27,24 @@ pub record Holds (kind : Kind) (pages : Pages) (values : List Value) : Type 0 wh
   pub enough : length values ≤ per_page kind * length pages
   pub few : length pages ≤ 63504
   pub cells : (p i : ℕ) → i < per_page kind → per_page kind * p + i < length values → IsCell kind (value_at (per_page kind * p + i) values) (cell_in kind (page_at p pages) i)
+
+-- a row of a list, or one without values past its end
+abbrev pub row_at : ℕ → List (List Value) → List Value
+row_at k rows = slice_index_or rows k []
+
+-- the values of one column
+abbrev pub column_of : ℕ → List (List Value) → List Value
+column_of c rows = map (value_at c) rows
+
+-- a column of this kind can hold the value that the row has at its place
+pub record CanHold (kind : Kind) (c : ℕ) (row : List Value) : Type 0 where
+  pub there : c < length row
+  pub of_kind : IsOf kind (value_at c row)
+
+-- a column of this kind can hold the values that the rows have at its place
+abbrev pub CanHoldAll : Kind → ℕ → List (List Value) → Type 0
+CanHoldAll kind c rows = (k : ℕ) → k < length rows → CanHold kind c (row_at k rows)
+
+-- from one cell of a page on stand the values that rows have at a place
+abbrev pub HoldsFrom : Kind → List ℕ → ℕ → ℕ → List (List Value) → Type 0
+HoldsFrom kind page first c rows = (k : ℕ) → k < length rows → IsCell kind (value_at c (row_at k rows)) (cell_in kind page (first + k))
