@@ -1,5 +1,5 @@
 -- Where the cells of a column lie in the pages of its object.
-use Rattle.std.specs.Prelude.{◌≡◌, ◌<◌, ◌≤◌, ℕ, ◌+◌, ◌*◌, ◌/◌, List, length, take, drop, slice_index_or, [], map}
+use Rattle.std.specs.Prelude.{◌≡◌, ◌<◌, ◌≤◌, ℕ, ◌+◌, ◌*◌, ◌/◌, List, length, take, drop, slice_index_or, [], ◌++◌, map}
 use Rattle.iq_base.specs.declared.values.Kind.{Kind}
 use Rattle.iq_base.specs.declared.values.Value.{Value}
 use Rattle.iq_base.specs.declared.values.Value.TheVariants.{Null}
@@ -48,3 +48,15 @@ CanHoldAll kind c rows = (k : ℕ) → k < length rows → CanHold kind c (row_a
 -- from one cell of a page on stand the values that rows have at a place
 abbrev pub HoldsFrom : Kind → List ℕ → ℕ → ℕ → List (List Value) → Type 0
 HoldsFrom kind page first c rows = (k : ℕ) → k < length rows → IsCell kind (value_at c (row_at k rows)) (cell_in kind page (first + k))
+
+-- the first cells of a page are those of the values
+abbrev pub HoldsCells : Kind → List ℕ → List Value → Type 0
+HoldsCells kind page values = (i : ℕ) → i < length values → IsCell kind (value_at i values) (cell_in kind page i)
+
+-- so many values are put at the end of a list, and where the first cells of a page are those of so many values, they are these
+abbrev pub Decodes : Kind → List ℕ → ℕ → List Value → List Value → Type 0
+Decodes kind page count old new = (values : List Value) → length values ≡ count → HoldsCells kind page values → new ≡ old ++ values
+
+-- the first cells of a page aren't those of so many values
+abbrev pub IsBad : Kind → List ℕ → ℕ → Type 0
+IsBad kind page count = (values : List Value) → length values ≡ count → ¬ (HoldsCells kind page values)
