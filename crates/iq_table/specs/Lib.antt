@@ -1,2 +1,3 @@
 pub mod Decoding
 pub mod Layout
+pub mod Reading

@@ -7,5 +7,6 @@
 
 mod decode;
 mod page_cells;
+mod read;
 
 pub use page_cells::put_cell;
