@@ -5,6 +5,14 @@ ghost use Rattle.iq_table.specs.Layout.{per_page, cell_in, value_at, CanHoldAll,
 
 use iq_base::{Kind, Page, Row, Value, cell_put, width};
 
+/// How many cells of a column a page has.
+pub fn cells_per_page(kind: Kind) -> usize
+    ensures value { result ≡ per_page kind }
+    ensures some { 0 < result }
+{
+    1008 / width(kind)
+}
+
 /// Writes a value into a cell of a page.
 pub fn put_cell(kind: Kind, value: &Value, page: &mut Page, i: usize)
     requires of_kind { IsOf kind value.now }
