@@ -1,2 +1,3 @@
+pub mod PutPage
 pub mod ReadLemmas
 pub mod Windows

@@ -1,3 +1,4 @@
+pub mod Appending
 pub mod Decoding
 pub mod Layout
 pub mod Reading

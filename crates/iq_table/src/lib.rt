@@ -7,6 +7,7 @@
 
 mod decode;
 mod page_cells;
+mod pages;
 mod read;
 
 pub use page_cells::put_cell;
