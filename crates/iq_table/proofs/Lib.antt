@@ -1,3 +1,4 @@
+pub mod GrowLemmas
 pub mod PutPage
 pub mod ReadLemmas
 pub mod Windows
