@@ -1,3 +1,4 @@
+pub mod AppendLemmas
 pub mod GrowLemmas
 pub mod PutPage
 pub mod ReadLemmas

@@ -5,6 +5,7 @@
 //! tables. Its one law: a call that fails leaves the table standing for the rows that it had.
 #![tactic(auto)]
 
+mod append;
 mod decode;
 mod page_cells;
 mod pages;

@@ -1,5 +1,5 @@
 //! Loading and saving one page of an object.
-ghost use Rattle.std.specs.Prelude.{◌≡◌, ◌<◌, ◌≤◌, OnOk, OnErr, IfErr, IsOk};
+ghost use Rattle.std.specs.Prelude.{◌≡◌, ◌<◌, ◌≤◌, OnOk, OnErr, IfErr};
 ghost use Rattle.iq_base.specs.Pages.{IsPageOf};
 ghost use Rattle.iq_table.specs.Appending.{SavesPage, KeepsOthers, HasLoadCause, HasSaveCause};
 
@@ -17,8 +17,8 @@ pub fn load_page<S: PageSource>(
     ensures told { S.told source.new ≡ S.told source.old }
     ensures counts { S.counts source.new ≡ S.counts source.old }
     ensures later { S.faults source.old ≤ S.faults source.new }
-    ensures cause { 0 < first → IfErr result (HasLoadCause (S.told source.old object) object n (S.faults source.old) (S.faults source.new)) }
-    ensures none { first ≡ 0 → IsOk result }
+    ensures some { OnErr result (0 < first) }
+    ensures cause { IfErr result (HasLoadCause (S.told source.old object) object n (S.faults source.old) (S.faults source.new)) }
 {
     if first == 0 {
         return Ok(());
