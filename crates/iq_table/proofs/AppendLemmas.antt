@@ -1,9 +1,10 @@
 -- Appending to an object, a page at a time.
-use Rattle.std.proofs.Common.{◌≡◌, ◌<◌, ◌≤◌, ℕ, ◌+◌, ◌*◌, ◌/◌, ◌%◌, ◌⊎◌, inl, inr, List, [], ◌++◌, map, Option, Some, IfSome, length, refl, sym, ap, ◌∙◌, arith}
+use Rattle.std.proofs.Common.{◌≡◌, ◌<◌, ◌≤◌, ℕ, ◌+◌, ◌*◌, ◌/◌, ◌%◌, ◌⊎◌, inl, inr, List, [], ◌++◌, map, take, drop, append_assoc, Option, Some, IfSome, length, refl, sym, ap, ◌∙◌, arith}
 use Rattle.std.specs.Prelude.{slice_get}
 use Rattle.std.proofs.Math.Nat.{mul-le-mul_left}
+use Rattle.std.proofs.Math.Seq.{take-add}
 use Rattle.std.proofs.lemmas.Bool.{cases_lt}
-use Rattle.std.proofs.lemmas.List.{get_or-map, length-map}
+use Rattle.std.proofs.lemmas.List.{get_or-map, length-map, length-append, length-take, map-append}
 use Rattle.std.proofs.lemmas.Option.{get_or_from_slice_get}
 use Rattle.iq_base.specs.declared.values.Kind.{Kind}
 use Rattle.iq_base.specs.declared.values.Value.{Value}
@@ -14,7 +15,7 @@ use Rattle.iq_base.specs.Cells.{IsCell}
 use Rattle.iq_base.specs.Pages.{Pages, IsPageOf}
 use Rattle.iq_table.specs.Layout.{per_page, page_at, value_at, row_at, column_of, cell_in, Holds, HoldsFrom}
 use Rattle.iq_table.specs.Reading.{HoldsObject, HasColumnCause}
-use Rattle.iq_table.specs.Appending.{put_page, SavesPage, HasLoadCause, Appends}
+use Rattle.iq_table.specs.Appending.{put_page, SavesPage, HasLoadCause, Appends, KeepsOthers}
 use Rattle.iq_table.proofs.GrowLemmas.{GoesOn, grow}
 
 -- a value of a column is that of its row
@@ -53,3 +54,24 @@ load_cause told kind object count n first before after (Refused refusal) some pl
 load_cause told kind object count n first before after (BadPage named page) some place more cause =
     (cause.0, λ values e h. absurd (omega (arith, cause.1 h.pages h.told_is, (reaches kind h.pages values n first h.holds (e ∙ place) some).1 more)))
 load_cause told kind object count n first before after NoMemory some place more cause = tt
+
+-- the values of a column of two lists of rows, one behind the other
+pub column_of-append : (c : ℕ) (xs ys : List (List Value)) → column_of c (xs ++ ys) ≡ column_of c xs ++ column_of c ys
+column_of-append c xs ys = map-append (value_at c) xs ys
+
+-- the next page after some
+pub appends_on : (kind : Kind) (count c done here : ℕ) (rows : List (List Value)) (first between last : Option Pages) → done ≤ length rows → Appends kind count (column_of c (take done rows)) first between → Appends kind (count + done) (column_of c (take here (drop done rows))) between last → Appends kind count (column_of c (take (done + here) rows)) first last
+appends_on kind count c done here rows first between last within p q = λ values e h.
+    let so_far = column_of c (take done rows) in
+    let next = column_of c (take here (drop done rows)) in
+    let long : length (values ++ so_far) ≡ count + done = omega (arith, length-append values so_far, length-map (take done rows) (value_at c), length-take done rows) in
+    let both : HoldsObject last kind ((values ++ so_far) ++ next) = q (values ++ so_far) long (p values e h) in
+    let joined : (values ++ so_far) ++ next ≡ values ++ column_of c (take (done + here) rows) = append_assoc values so_far next ∙ ap (λ (vs : List Value). values ++ vs) (sym (column_of-append c (take done rows) (take here (drop done rows))) ∙ ap (column_of c) (sym (take-add done here rows))) in
+    rw joined at both
+
+-- other objects are kept by two calls, one after the other
+pub others_on : (object : ℕ) (a b c : ℕ → Option Pages) (l m n : ℕ → ℕ) → KeepsOthers object a b l m → KeepsOthers object b c m n → KeepsOthers object a c l n
+others_on object a b c l m n p q = record {
+  told_others = λ other e. q.told_others other e ∙ p.told_others other e;
+  counts_others = λ other e. q.counts_others other e ∙ p.counts_others other e;
+}

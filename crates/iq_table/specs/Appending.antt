@@ -31,6 +31,10 @@ HasSaveCause told object n before after NoMemory = ⊤
 abbrev pub Appends : Kind → ℕ → List Value → Option Pages → Option Pages → Type 0
 Appends kind count more before after = (values : List Value) → length values ≡ count → HoldsObject before kind values → HoldsObject after kind (values ++ more)
 
+-- whatever so many values the object holds, it holds afterwards
+abbrev pub KeepsValues : Kind → ℕ → Option Pages → Option Pages → Type 0
+KeepsValues kind count before after = (values : List Value) → length values ≡ count → HoldsObject before kind values → HoldsObject after kind values
+
 -- every other object has the pages that it had
 pub record KeepsOthers (object : ℕ) (told told' : ℕ → Option Pages) (counts counts' : ℕ → ℕ) : Type 0 where
   pub told_others : (other : ℕ) → other ≢ object → told' other ≡ told other
