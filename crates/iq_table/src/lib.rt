@@ -7,6 +7,7 @@
 
 mod append;
 mod decode;
+mod limits;
 mod page_cells;
 mod pages;
 mod read;
