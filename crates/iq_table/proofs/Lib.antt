@@ -1,5 +1,6 @@
 pub mod AppendLemmas
 pub mod GrowLemmas
+pub mod LimitLemmas
 pub mod PutPage
 pub mod ReadLemmas
 pub mod Windows

@@ -1,5 +1,6 @@
 //! Appending to the columns of a table.
 ghost use Rattle.std.specs.Prelude.{◌≡◌, ◌<◌, ◌≤◌, ◌+◌, ◌*◌, ◌/◌, ◌%◌, ◌^◌, length, OnOk, OnErr, IfErr};
+ghost use Rattle.iq_table.specs.Limits.{limit_for, text_length};
 ghost use Rattle.iq_table.specs.Layout.{per_page, column_of, CanHoldAll};
 ghost use Rattle.iq_table.specs.Reading.{HasColumnCause};
 ghost use Rattle.iq_table.specs.Appending.{Appends, KeepsValues, KeepsOthers};
@@ -19,7 +20,7 @@ pub fn append_to_object<S: PageSink>(
 ) -> Result<(), PageFault>
     requires can { CanHoldAll kind column rows.now }
     requires small { count + length rows.now < 2 ^ 32 }
-    requires room { count + length rows.now ≤ per_page kind * 63504 }
+    requires limit { count + length rows.now ≤ limit_for (text_length kind) }
     ensures ok { OnOk result (Appends kind count (column_of column rows.now) (S.told sink.old object) (S.told sink.new object)) }
     ensures kept { OnErr result (KeepsValues kind count (S.told sink.old object) (S.told sink.new object)) }
     ensures others { KeepsOthers object (S.told sink.old) (S.told sink.new) (S.counts sink.old) (S.counts sink.new) }
