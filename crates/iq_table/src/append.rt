@@ -1,13 +1,46 @@
 //! Appending to the columns of a table.
 ghost use Rattle.std.specs.Prelude.{◌≡◌, ◌<◌, ◌≤◌, ◌+◌, ◌*◌, ◌/◌, ◌%◌, ◌^◌, length, OnOk, OnErr, IfErr};
-ghost use Rattle.iq_table.specs.Limits.{limit_for, text_length};
+ghost use Rattle.iq_table.specs.Limits.{limit_for, text_length, row_limit};
+ghost use Rattle.iq_table.specs.Table.{AreRowsOf, StandsForMore, StandsStill, KeepsTheRest, HasTableCause};
 ghost use Rattle.iq_table.specs.Layout.{per_page, column_of, CanHoldAll};
 ghost use Rattle.iq_table.specs.Reading.{HasColumnCause};
 ghost use Rattle.iq_table.specs.Appending.{Appends, KeepsValues, KeepsOthers};
 
 use crate::page_cells::{cells_per_page, fill};
 use crate::pages::{load_page, save_page};
-use iq_base::{Kind, PageFault, PageSink, Row};
+use crate::table::{kind_at, object_of};
+use iq_base::{Column, Kind, PageFault, PageSink, Row};
+
+/// Puts the values of rows behind the last ones of all columns. Each page is written once.
+pub fn append_to_columns<S: PageSink>(
+    sink: &mut S,
+    place: u32,
+    columns: &[Column],
+    slots: u32,
+    rows: &[Row],
+) -> Result<(), PageFault>
+    requires place { place < 64 }
+    requires columns { length columns.now ≤ 32 }
+    requires rows { AreRowsOf columns.now rows.now }
+    requires limit { slots + length rows.now ≤ row_limit columns.now }
+    ensures ok { OnOk result (StandsForMore place columns.now slots rows.now (S.told sink.old) (S.told sink.new)) }
+    ensures kept { OnErr result (StandsStill place columns.now slots (S.told sink.old) (S.told sink.new)) }
+    ensures rest { KeepsTheRest place columns.now (S.told sink.old) (S.told sink.new) (S.counts sink.old) (S.counts sink.new) }
+    ensures later { S.faults sink.old ≤ S.faults sink.new }
+    ensures cause { IfErr result (HasTableCause (S.told sink.old) place columns.now slots (S.faults sink.old) (S.faults sink.new)) }
+{
+    for c in 0..columns.len() {
+        append_to_object(
+            sink,
+            object_of(place, c),
+            kind_at(columns, c),
+            slots,
+            rows,
+            c,
+        )?;
+    }
+    Ok(())
+}
 
 /// Puts the values that rows have in a column behind the last one of an object. Each page is written once.
 pub fn append_to_object<S: PageSink>(

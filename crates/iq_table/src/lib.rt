@@ -11,5 +11,6 @@ mod limits;
 mod page_cells;
 mod pages;
 mod read;
+mod table;
 
 pub use page_cells::put_cell;
