@@ -1,6 +1,5 @@
 -- Appending to an object, a page at a time.
-use Rattle.std.proofs.Common.{◌≡◌, ◌<◌, ◌≤◌, ℕ, ◌+◌, ◌*◌, ◌/◌, ◌%◌, ◌⊎◌, inl, inr, List, [], ◌++◌, map, take, drop, append_assoc, Option, Some, IfSome, length, refl, sym, ap, ◌∙◌, arith}
-use Rattle.std.specs.Prelude.{slice_get}
+use Rattle.std.proofs.Common.{◌≡◌, ◌<◌, ◌≤◌, ℕ, ◌+◌, ◌*◌, inl, inr, List, [], ◌++◌, take, drop, append_assoc, Option, Some, length, sym, ap, ◌∙◌, arith}
 use Rattle.std.proofs.Math.Nat.{mul-le-mul_left}
 use Rattle.std.proofs.Math.Seq.{take-add}
 use Rattle.std.proofs.lemmas.Bool.{cases_lt}
@@ -11,7 +10,6 @@ use Rattle.iq_base.specs.declared.values.Value.{Value}
 use Rattle.iq_base.specs.declared.values.Value.TheVariants.{Null}
 use Rattle.iq_base.specs.declared.page_faults.PageFault.{PageFault}
 use Rattle.iq_base.specs.declared.page_faults.PageFault.TheVariants.{Refused, BadPage, NoMemory}
-use Rattle.iq_base.specs.Cells.{IsCell}
 use Rattle.iq_base.specs.Pages.{Pages, IsPageOf}
 use Rattle.iq_table.specs.Layout.{per_page, page_at, value_at, row_at, column_of, cell_in, Holds, HoldsFrom}
 use Rattle.iq_table.specs.Reading.{HoldsObject, HasColumnCause}

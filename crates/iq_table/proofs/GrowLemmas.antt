@@ -1,15 +1,14 @@
 -- An object whose next page is filled holds more values.
-use Rattle.std.proofs.Common.{◌≡◌, ◌≢◌, ◌<◌, ◌≤◌, ℕ, ◌+◌, ◌-◌, ◌*◌, ◌/◌, ◌%◌, max, ◌⊎◌, inl, inr, List, [], ◌++◌, Option, Some, length, slice_index_or, refl, sym, ap, ◌∙◌, arith}
+use Rattle.std.proofs.Common.{◌≡◌, ◌<◌, ◌≤◌, ℕ, ◌+◌, ◌-◌, ◌*◌, max, inl, inr, List, ◌++◌, length, arith}
 use Rattle.std.proofs.Math.Nat.{mul-le-mul_left}
-use Rattle.std.proofs.lemmas.Bool.{cases_lt, cases_order}
+use Rattle.std.proofs.lemmas.Bool.{cases_lt}
 use Rattle.std.proofs.lemmas.List.{length-append, get_or_append_left, get_or-append-add}
 use Rattle.iq_base.specs.declared.values.Kind.{Kind}
 use Rattle.iq_base.specs.declared.values.Value.{Value}
 use Rattle.iq_base.specs.declared.values.Value.TheVariants.{Null}
 use Rattle.iq_base.specs.Cells.{IsCell}
 use Rattle.iq_base.specs.Pages.{Pages}
-use Rattle.iq_table.specs.Layout.{per_page, page_at, value_at, cell_in, Holds, HoldsCells}
-use Rattle.iq_table.specs.Reading.{HoldsObject}
+use Rattle.iq_table.specs.Layout.{per_page, page_at, value_at, cell_in, Holds}
 use Rattle.iq_table.specs.Appending.{put_page}
 use Rattle.iq_table.proofs.PutPage.{put_here, put_before, put_length}
 

@@ -1,5 +1,5 @@
 -- Reading the pages of an object one after the other gives the values that it holds.
-use Rattle.std.proofs.Common.{◌≡◌, ◌<◌, ◌≤◌, ℕ, ◌+◌, ◌-◌, ◌*◌, ◌/◌, ◌%◌, min, ◌⊎◌, inl, inr, List, ◌++◌, Option, Some, length, take, drop, refl, sym, ap, ◌∙◌, subst, arith}
+use Rattle.std.proofs.Common.{◌≡◌, ◌<◌, ◌≤◌, ℕ, ◌+◌, ◌-◌, ◌*◌, ◌/◌, ◌%◌, min, inl, inr, List, ◌++◌, Option, length, take, drop, sym, ap, ◌∙◌, arith}
 use Rattle.std.specs.Int.{div_ceil}
 use Rattle.std.proofs.Math.Nat.{mul-le-mul_left}
 use Rattle.std.proofs.Math.Seq.{take-add}
@@ -8,12 +8,11 @@ use Rattle.std.proofs.lemmas.List.{get_or-take, get_or-drop, length-take, length
 use Rattle.iq_base.specs.declared.values.Kind.{Kind}
 use Rattle.iq_base.specs.declared.values.Value.{Value}
 use Rattle.iq_base.specs.declared.values.Value.TheVariants.{Null}
-use Rattle.iq_base.specs.Cells.{IsCell}
 use Rattle.iq_base.specs.declared.page_faults.PageFault.{PageFault}
 use Rattle.iq_base.specs.declared.page_faults.PageFault.TheVariants.{Refused, BadPage, NoMemory}
 use Rattle.iq_base.specs.Pages.{Pages}
 use Rattle.iq_base.proofs.PageLaws.{risen_since}
-use Rattle.iq_table.specs.Layout.{per_page, page_at, value_at, cell_in, Holds, HoldsCells}
+use Rattle.iq_table.specs.Layout.{per_page, page_at, value_at, Holds, HoldsCells}
 use Rattle.iq_table.specs.Reading.{HoldsObject, DecodesPage, IsBadPage, HasPageCause, HasColumnCause}
 
 -- a page before the last one begins below the count

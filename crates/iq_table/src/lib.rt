@@ -11,6 +11,8 @@ mod limits;
 mod page_cells;
 mod pages;
 mod read;
+mod rows;
 mod table;
 
-pub use page_cells::put_cell;
+pub use limits::row_limit;
+pub use table::Table;

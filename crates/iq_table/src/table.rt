@@ -1,13 +1,14 @@
 //! A table: its name, its columns and its number of rows.
-ghost use Rattle.std.specs.Prelude.{◌≡◌, ◌<◌, ◌≤◌, ◌+◌, [], length, OnOk, OnErr, IfOk, IfErr};
+ghost use Rattle.std.specs.Prelude.{◌≡◌, ◌<◌, ◌≤◌, ℕ, ◌+◌, [], length, slice_index, OnOk, OnErr, IfOk, IfErr};
 ghost use Rattle.iq_base.specs.Pages.{ReadsMore};
 ghost use Rattle.iq_table.specs.Limits.{row_limit};
 ghost use Rattle.iq_table.specs.Reading.{pages_for};
-ghost use Rattle.iq_table.specs.Table.{kind_at, object_of, AreRowsOf, Stands, TableStands, Gains, Keeps, KeepsTheRest, TellsObjects, GivesValues, HasTableCause, HasMakeCause};
+ghost use Rattle.iq_table.specs.Table.{kind_at, object_of, AreRowsOf, Stands, TableStands, Gains, Keeps, KeepsTheRest, TellsObjects, GivesValues, GivesRows, pages_of, HasTableCause, HasMakeCause};
 
 use crate::append::append_to_columns;
 use crate::read::read_object;
-use iq_base::{Column, Kind, Name, PageFault, PageSink, PageSource, Row, Schema, Value};
+use crate::rows::rows_of;
+use iq_base::{Column, Kind, Listed, Name, PageFault, PageSink, PageSource, Row, Schema, Value};
 use std::alloc::Global;
 
 /// A table as a commit has it. Its rows are in the pages of its objects, one object a column.
@@ -94,6 +95,32 @@ impl Table {
     {
         let kind = kind_at(self.schema.columns.as_slice(), column);
         read_object(alloc, source, object_of(place, column), kind, self.slots)
+    }
+
+    /// The values of rows in some columns, in the order of rows. Each page of a column is read once for each mention of it.
+    pub fn read_columns<S: PageSource>(
+        &self,
+        alloc: Global,
+        place: u32,
+        source: &mut S,
+        columns: &[usize],
+    ) -> Result<Vec<Row>, PageFault>
+        requires place { place < 64 }
+        requires columns { length self.now.schema.columns ≤ 32 }
+        requires chosen { (i : ℕ) → i < length columns.now → slice_index columns.now i < length self.now.schema.columns }
+        ensures ok { IfOk result (λ rows. GivesRows (S.told source.old) place self.now columns.now rows.items) }
+        ensures told { S.told source.new ≡ S.told source.old }
+        ensures counts { S.counts source.new ≡ S.counts source.old }
+        ensures reads { OnOk result (ReadsMore (pages_of self.now.schema.columns self.now.slots columns.now) (S.reads source.old) (S.reads source.new)) }
+        ensures later { S.faults source.old ≤ S.faults source.new }
+        ensures cause { IfErr result (HasTableCause (S.told source.old) place self.now.schema.columns self.now.slots (S.faults source.old) (S.faults source.new)) }
+    {
+        let mut read = Vec::new(alloc);
+        for column in columns {
+            let values = self.read_column(alloc, place, source, *column)?;
+            read.push(Listed::from_vec(values))?;
+        }
+        Ok(rows_of(alloc, read.as_slice(), self.slots)?)
     }
 }
 

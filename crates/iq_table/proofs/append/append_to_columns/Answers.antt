@@ -1,4 +1,4 @@
-use Rattle.std.proofs.Common.{◌≤◌, arith}
+use Rattle.std.proofs.Common.{arith}
 use Rattle.std.proofs.lemmas.Result.{err_from_is_err_and}
 use Rattle.iq_table.proofs.LimitLemmas.{limit_falls, within_longest}
 use Rattle.iq_table.proofs.TableLemmas.{next_column, still_stands, rest_on}

@@ -1,4 +1,4 @@
-use Rattle.std.proofs.Common.{◌≡◌, ◌≤◌, ◌-◌, ℕ, take, length}
+use Rattle.std.proofs.Common.{◌≤◌, ◌-◌, take, length}
 use Rattle.iq_table.specs.Layout.{column_of}
 use Rattle.iq_table.specs.Appending.{Appends, KeepsOthers}
 use Rattle.iq_table.proofs.append.append_to_object.Given as goal

@@ -1,4 +1,4 @@
-use Rattle.std.proofs.Common.{◌≡◌, ◌≤◌, ◌++◌, List, take, length}
+use Rattle.std.proofs.Common.{◌≡◌, ◌++◌, List, take, length}
 use Rattle.iq_base.specs.declared.values.Value.{Value}
 use Rattle.iq_table.specs.Layout.{HoldsCells}
 use Rattle.iq_table.proofs.decode.decode.Given as goal

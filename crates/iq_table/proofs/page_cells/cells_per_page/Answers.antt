@@ -1,4 +1,3 @@
-use Rattle.std.proofs.Common.{arith}
 use Rattle.iq_table.proofs.LimitLemmas.{rows_fit}
 use Rattle.iq_table.proofs.page_cells.cells_per_page.Goals as goal
 

@@ -1,4 +1,4 @@
-use Rattle.std.proofs.Common.{◌≡◌, ◌<◌, ◌≤◌, ℕ, ◌+◌, take, length}
+use Rattle.std.proofs.Common.{◌≡◌, ◌<◌, ℕ, ◌+◌}
 use Rattle.iq_base.specs.Cells.{IsCell}
 use Rattle.iq_table.specs.Layout.{cell_in, value_at, row_at}
 use Rattle.iq_table.proofs.page_cells.fill.Given as goal

@@ -1,6 +1,5 @@
-use Rattle.std.proofs.Common.{◌≡◌, ◌≤◌, ◌+◌, ◌*◌, ◌/◌, length, arith, rules}
+use Rattle.std.proofs.Common.{◌≡◌, ◌≤◌, ◌+◌, ◌*◌, ◌/◌, length, arith}
 use Rattle.std.proofs.Math.Nat.{mul-le-mul_right, div-mul-le_self}
-use Rattle.iq_base.specs.Cells.{width}
 use Rattle.iq_table.proofs.Windows.{window_elsewhere}
 use Rattle.iq_table.proofs.page_cells.put_cell.Goals as goal
 

@@ -1,5 +1,4 @@
 use Rattle.std.proofs.lemmas.Result.{on_ok_weaker}
-use Rattle.iq_base.specs.Pages.{ChangesObject}
 use Rattle.iq_table.proofs.PutPage.{set_saves}
 use Rattle.iq_table.proofs.pages.save_page.Goals as goal
 

@@ -1,4 +1,4 @@
-use Rattle.std.proofs.Common.{◌≡◌, ◌<◌, ◌≤◌, ℕ, [], Option}
+use Rattle.std.proofs.Common.{◌≡◌, ◌<◌, ◌≤◌, ℕ, []}
 use Rattle.std.specs.Option.{option_map}
 use Rattle.iq_base.specs.Pages.{Pages}
 use Rattle.iq_table.specs.Table.{KeepsTheRest, object_of}
