@@ -1,1 +1,4 @@
 pub mod CellBytes
+pub mod CellLaws
+pub mod PageLaws
+pub mod PagesInMemory

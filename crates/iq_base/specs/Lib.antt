@@ -1,2 +1,6 @@
 pub mod Cells
 pub mod Locks
+pub mod MemoryPages
+pub mod MemoryView
+pub mod PageCalls
+pub mod Pages

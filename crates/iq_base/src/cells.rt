@@ -20,7 +20,8 @@ pub struct BadCell;
 
 /// How many bytes a cell of a column has: 5 for INT, 9 for BIGINT, and two more than the greatest length for VARCHAR.
 pub fn width(kind: Kind) -> usize
-    ensures { result ≡ width kind }
+    ensures value { result ≡ width kind }
+    ensures small { (2 ≤ result) × (result ≤ 257) }
 {
     match kind {
         Kind::Int => 5,
@@ -47,6 +48,7 @@ pub fn cell_put(kind: Kind, value: &Value, into: &mut [u8])
 pub fn cell_get(kind: Kind, from: &[u8]) -> Result<Value, BadCell>
     requires { length from.now ≡ width kind }
     ensures ok { IfOk result (λ value. IsCell kind value from.now) }
+    ensures only { IfOk result (λ value. (other : Value) → IsCell kind other from.now → other ≡ value) }
     ensures err { OnErr result ((value : Value) → ¬ (IsCell kind value from.now)) }
 {
     match from[0] {

@@ -1,0 +1,8 @@
+pub mod AppendLemmas
+pub mod GrowLemmas
+pub mod LimitLemmas
+pub mod PutPage
+pub mod ReadLemmas
+pub mod RowLemmas
+pub mod TableLemmas
+pub mod Windows
