@@ -4,3 +4,4 @@ pub mod MemoryPages
 pub mod MemoryView
 pub mod PageCalls
 pub mod Pages
+pub mod Limits

@@ -8,6 +8,7 @@
 mod answers;
 mod cells;
 mod letters;
+mod limits;
 mod lists;
 mod locks;
 mod memory;
@@ -26,6 +27,7 @@ mod values;
 pub use answers::{Answer, Out, Versions};
 pub use cells::{BadCell, cell_get, cell_put, width};
 pub use letters::Letters;
+pub use limits::row_limit;
 pub use lists::Listed;
 pub use locks::Locks;
 pub use memory::NoMemory;

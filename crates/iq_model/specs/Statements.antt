@@ -14,6 +14,7 @@ use Rattle.iq_base.specs.declared.refusals.Refusal.{Refusal}
 use Rattle.iq_base.specs.declared.refusals.Refusal.TheVariants as refusals
 use Rattle.iq_base.specs.declared.refusals.FieldCause.{FieldCause}
 use Rattle.iq_base.specs.declared.refusals.FieldCause.TheVariants as causes
+use Rattle.iq_base.specs.Limits.{row_limit}
 use Rattle.iq_base.specs.Locks.{locks_of}
 use Rattle.iq_ast.specs.declared.statements.Statement.{Statement}
 use Rattle.iq_ast.specs.declared.statements.Statement.TheVariants as statements
@@ -71,10 +72,15 @@ abbrev pub fits_int : ℤ → Bool
 fits_int (pos n) = nat_lt n 2147483648
 fits_int (negsuc n) = nat_lt n 2147483648
 
+-- whether it fits 64 bits with a sign
+abbrev pub fits_big : ℤ → Bool
+fits_big (pos n) = nat_lt n 9223372036854775808
+fits_big (negsuc n) = nat_lt n 9223372036854775808
+
 -- what is wrong with a number in a column of this kind
 abbrev pub number_cause : Kind → ℤ → Option FieldCause
 number_cause kinds.Int z = if fits_int z then None else Some causes.Range
-number_cause kinds.Big z = None
+number_cause kinds.Big z = if fits_big z then None else Some causes.Range
 number_cause (kinds.Varchar most) z = Some causes.NotText
 
 -- what is wrong with a text in a column of this kind
@@ -113,12 +119,9 @@ first_bad_row row columns (fields ∷ rows) = option_or (bad_row row columns fie
 
 -- REFUSALS
 
--- how many tables there can be, and how many slots a table can have
+-- how many tables there can be
 abbrev pub most_tables : ℕ
 most_tables = 64
-
-abbrev pub row_limit : ℕ
-row_limit = 262144
 
 -- the tests of what is named, and of the values, on the table that an INSERT names
 abbrev pub insert_checks : Name → Option Table → List (List Value) → List Check
@@ -152,7 +155,7 @@ statement_checks _ db = []
 abbrev pub room_check : Option Table → ℕ → List Check
 room_check None count = []
 room_check (Some t) count =
-    record { order = 10; found = found_if (nat_lt row_limit (length t.slots + count)) (refusals.TableFull row_limit) } ∷ []
+    record { order = 10; found = found_if (nat_lt (row_limit t.columns) (length t.slots + count)) (refusals.TableFull (row_limit t.columns)) } ∷ []
 
 -- the tests that come once the names are locked
 abbrev pub room_checks : Statement → Database → List Check

@@ -1,6 +1,6 @@
 //! The tests of rows and of names of columns: what a statement names must be there, and what it puts must fit.
 ghost use Rattle.std.specs.Prelude.{◌≡◌, ◌<◌, ◌^◌, length, Some};
-ghost use Rattle.iq_model.specs.Statements.{column_place, item_column, no_column, first_no_column, fits_int, number_cause, text_cause, field_cause, bad_field, first_bad_field, bad_row, first_bad_row};
+ghost use Rattle.iq_model.specs.Statements.{column_place, item_column, no_column, first_no_column, fits_int, fits_big, number_cause, text_cause, field_cause, bad_field, first_bad_field, bad_row, first_bad_row};
 
 use iq_ast::Item;
 use iq_base::{Column, FieldCause, Kind, Name, Refusal, Row, Text, Value};
@@ -128,7 +128,13 @@ fn number_cause(kind: Kind, number: i64) -> Option<FieldCause>
                 Some(FieldCause::Range)
             }
         }
-        Kind::Big => None,
+        Kind::Big => {
+            if fits_big(number) {
+                None
+            } else {
+                Some(FieldCause::Range)
+            }
+        }
         Kind::Varchar(_) => Some(FieldCause::NotText),
     }
 }
@@ -138,6 +144,13 @@ fn fits_int(number: i64) -> bool
     ensures { result ≡ fits_int number }
 {
     -2_147_483_648 <= number && number <= 2_147_483_647
+}
+
+/// Whether a number fits 64 bits with a sign, as each of its type does.
+fn fits_big(number: i64) -> bool
+    ensures { result ≡ fits_big number }
+{
+    i64::MIN <= number && number <= i64::MAX
 }
 
 /// What is wrong with a text in a column of this kind.

@@ -35,7 +35,7 @@ pub record Found (ss : List Stored) (name : Name) (db : Database) (i : ℕ) : Ty
 -- what a look-up from place n on finds is past n
 pub past_place : (n i : ℕ) (name : Name) (ss : List Stored) → place_from n name ss ≡ Some i → n ≤ i
 past_place n i name [] h = cc
-past_place n i name (s ∷ ss) h = either n i name ss (same_name s.name name) h (past_place (n + 1) i name ss)
+past_place n i name (s ∷ ss) h = either n i name ss (same_name s.table.name name) h (past_place (n + 1) i name ss)
   where
   either : (n i : ℕ) (name : Name) (ss : List Stored) (b : Bool) → cond b (Some n) (place_from (n + 1) name ss) ≡ Some i → (place_from (n + 1) name ss ≡ Some i → n + 1 ≤ i) → n ≤ i
   either n i name ss true h further = let same : n ≡ i = cc in omega arith
@@ -46,9 +46,9 @@ pub none_found : (n : ℕ) (name : Name) (ss : List Stored) (db : Database) → 
 none_found n name [] [] h stand = refl
 none_found n name [] (t ∷ ts) h stand = absurd stand
 none_found n name (s ∷ ss) [] h stand = absurd stand
-none_found n name (s ∷ ss) (t ∷ ts) h stand = either n name s ss t ts (same_name s.name name) refl h stand (none_found (n + 1) name ss ts)
+none_found n name (s ∷ ss) (t ∷ ts) h stand = either n name s ss t ts (same_name s.table.name name) refl h stand (none_found (n + 1) name ss ts)
   where
-  either : (n : ℕ) (name : Name) (s : Stored) (ss : List Stored) (t : Table) (ts : Database) (b : Bool) → same_name s.name name ≡ b → cond (same_name s.name name) (Some n) (place_from (n + 1) name ss) ≡ None → StandFor (s ∷ ss) (t ∷ ts)
+  either : (n : ℕ) (name : Name) (s : Stored) (ss : List Stored) (t : Table) (ts : Database) (b : Bool) → same_name s.table.name name ≡ b → cond (same_name s.table.name name) (Some n) (place_from (n + 1) name ss) ≡ None → StandFor (s ∷ ss) (t ∷ ts)
       → (place_from (n + 1) name ss ≡ None → StandFor ss ts → table_of name ts ≡ None) → table_of name (t ∷ ts) ≡ None
   either n name s ss t ts true is h stand further = let clash : Some n ≡ None = sym (rw is refl) ∙ h in cc
   either n name s ss t ts false is h stand further =
@@ -60,17 +60,17 @@ pub found : (name : Name) (ss : List Stored) (db : Database) (i n : ℕ) → pla
 found name [] [] i n h stand = cc
 found name [] (t ∷ ts) i n h stand = absurd stand
 found name (s ∷ ss) [] i n h stand = absurd stand
-found name (s ∷ ss) (t ∷ ts) zero n h stand = here name s ss t ts n (same_name s.name name) refl h stand
+found name (s ∷ ss) (t ∷ ts) zero n h stand = here name s ss t ts n (same_name s.table.name name) refl h stand
   where
-  here : (name : Name) (s : Stored) (ss : List Stored) (t : Table) (ts : Database) (n : ℕ) (b : Bool) → same_name s.name name ≡ b → cond (same_name s.name name) (Some n) (place_from (n + 1) name ss) ≡ Some (n + 0) → StandFor (s ∷ ss) (t ∷ ts) → Found (s ∷ ss) name (t ∷ ts) 0
+  here : (name : Name) (s : Stored) (ss : List Stored) (t : Table) (ts : Database) (n : ℕ) (b : Bool) → same_name s.table.name name ≡ b → cond (same_name s.table.name name) (Some n) (place_from (n + 1) name ss) ≡ Some (n + 0) → StandFor (s ∷ ss) (t ∷ ts) → Found (s ∷ ss) name (t ∷ ts) 0
   here name s ss t ts n true is h stand =
       let own : same_name t.name name ≡ true = ap (λ (m : Name). same_name m name) (sym stand.0.name_is) ∙ is in
       record { stored = s; table = t; stored_is = refl; table_is = rw own refl; stands = stand.0 }
   here name s ss t ts n false is h stand =
       let past : n + 1 ≤ n + 0 = past_place (n + 1) (n + 0) name ss (sym (rw is refl) ∙ h) in absurd (omega arith)
-found name (s ∷ ss) (t ∷ ts) (suc i) n h stand = further name s ss t ts i n (same_name s.name name) refl h stand (found name ss ts i (n + 1))
+found name (s ∷ ss) (t ∷ ts) (suc i) n h stand = further name s ss t ts i n (same_name s.table.name name) refl h stand (found name ss ts i (n + 1))
   where
-  further : (name : Name) (s : Stored) (ss : List Stored) (t : Table) (ts : Database) (i n : ℕ) (b : Bool) → same_name s.name name ≡ b → cond (same_name s.name name) (Some n) (place_from (n + 1) name ss) ≡ Some (n + suc i) → StandFor (s ∷ ss) (t ∷ ts)
+  further : (name : Name) (s : Stored) (ss : List Stored) (t : Table) (ts : Database) (i n : ℕ) (b : Bool) → same_name s.table.name name ≡ b → cond (same_name s.table.name name) (Some n) (place_from (n + 1) name ss) ≡ Some (n + suc i) → StandFor (s ∷ ss) (t ∷ ts)
       → (place_from (n + 1) name ss ≡ Some (n + 1 + i) → StandFor ss ts → Found ss name ts i) → Found (s ∷ ss) name (t ∷ ts) (suc i)
   further name s ss t ts i n true is h stand more =
       let same : Some n ≡ Some (n + suc i) = sym (rw is refl) ∙ h in
@@ -88,25 +88,25 @@ pub replaced-stand : (name : Name) (ss : List Stored) (db : Database) (i n : ℕ
 replaced-stand name [] [] i n new t' h stand is stands = cc
 replaced-stand name [] (t ∷ ts) i n new t' h stand is stands = absurd stand
 replaced-stand name (s ∷ ss) [] i n new t' h stand is stands = absurd stand
-replaced-stand name (s ∷ ss) (t ∷ ts) zero n new t' h stand is stands = here name s ss t ts n new t' (same_name s.name name) refl h stand is stands
+replaced-stand name (s ∷ ss) (t ∷ ts) zero n new t' h stand is stands = here name s ss t ts n new t' (same_name s.table.name name) refl h stand is stands
   where
-  here : (name : Name) (s : Stored) (ss : List Stored) (t : Table) (ts : Database) (n : ℕ) (new : Stored) (t' : Table) (b : Bool) → same_name s.name name ≡ b → cond (same_name s.name name) (Some n) (place_from (n + 1) name ss) ≡ Some (n + 0) → StandFor (s ∷ ss) (t ∷ ts)
+  here : (name : Name) (s : Stored) (ss : List Stored) (t : Table) (ts : Database) (n : ℕ) (new : Stored) (t' : Table) (b : Bool) → same_name s.table.name name ≡ b → cond (same_name s.table.name name) (Some n) (place_from (n + 1) name ss) ≡ Some (n + 0) → StandFor (s ∷ ss) (t ∷ ts)
       → t'.name ≡ name → StandsFor new t' → StandFor (new ∷ ss) (replaced t' (t ∷ ts))
   here name s ss t ts n new t' true at h stand is stands =
-      let own : same_name t.name t'.name ≡ true = ap (λ (m : Name). same_name m t'.name) (sym stand.0.name_is) ∙ ap (same_name s.name) is ∙ at in
+      let own : same_name t.name t'.name ≡ true = ap (λ (m : Name). same_name m t'.name) (sym stand.0.name_is) ∙ ap (same_name s.table.name) is ∙ at in
       rw own (stands, stand.1)
   here name s ss t ts n new t' false at h stand is stands =
       let past : n + 1 ≤ n + 0 = past_place (n + 1) (n + 0) name ss (sym (rw at refl) ∙ h) in absurd (omega arith)
-replaced-stand name (s ∷ ss) (t ∷ ts) (suc i) n new t' h stand is stands = further name s ss t ts i n new t' (same_name s.name name) refl h stand is stands (replaced-stand name ss ts i (n + 1) new t')
+replaced-stand name (s ∷ ss) (t ∷ ts) (suc i) n new t' h stand is stands = further name s ss t ts i n new t' (same_name s.table.name name) refl h stand is stands (replaced-stand name ss ts i (n + 1) new t')
   where
-  further : (name : Name) (s : Stored) (ss : List Stored) (t : Table) (ts : Database) (i n : ℕ) (new : Stored) (t' : Table) (b : Bool) → same_name s.name name ≡ b → cond (same_name s.name name) (Some n) (place_from (n + 1) name ss) ≡ Some (n + suc i) → StandFor (s ∷ ss) (t ∷ ts)
+  further : (name : Name) (s : Stored) (ss : List Stored) (t : Table) (ts : Database) (i n : ℕ) (new : Stored) (t' : Table) (b : Bool) → same_name s.table.name name ≡ b → cond (same_name s.table.name name) (Some n) (place_from (n + 1) name ss) ≡ Some (n + suc i) → StandFor (s ∷ ss) (t ∷ ts)
       → t'.name ≡ name → StandsFor new t' → (place_from (n + 1) name ss ≡ Some (n + 1 + i) → StandFor ss ts → t'.name ≡ name → StandsFor new t' → StandFor (set ss i new) (replaced t' ts))
       → StandFor (s ∷ set ss i new) (replaced t' (t ∷ ts))
   further name s ss t ts i n new t' true at h stand is stands more =
       let same : Some n ≡ Some (n + suc i) = sym (rw at refl) ∙ h in
       let num : n ≡ n + suc i = cc in absurd (omega arith)
   further name s ss t ts i n new t' false at h stand is stands more =
-      let own : same_name t.name t'.name ≡ false = ap (λ (m : Name). same_name m t'.name) (sym stand.0.name_is) ∙ ap (same_name s.name) is ∙ at in
+      let own : same_name t.name t'.name ≡ false = ap (λ (m : Name). same_name m t'.name) (sym stand.0.name_is) ∙ ap (same_name s.table.name) is ∙ at in
       let rest : place_from (n + 1) name ss ≡ Some (n + suc i) = sym (rw at refl) ∙ h in
       let num : n + suc i ≡ n + 1 + i = omega arith in
       rw own (stand.0, more (rest ∙ ap Some num) stand.1 is stands)
@@ -114,7 +114,7 @@ replaced-stand name (s ∷ ss) (t ∷ ts) (suc i) n new t' h stand is stands = f
 -- how many tables stand before, where places are counted from n on
 pub before-suc : (n : ℕ) (name : Name) (ss : List Stored) → before_from (n + 1) name ss ≡ before_from n name ss + 1
 before-suc n name [] = refl
-before-suc n name (s ∷ ss) = either n name ss (is_gt (slice_cmp nat_cmp name s.name)) (before-suc (n + 1) name ss)
+before-suc n name (s ∷ ss) = either n name ss (is_gt (slice_cmp nat_cmp name s.table.name)) (before-suc (n + 1) name ss)
   where
   either : (n : ℕ) (name : Name) (ss : List Stored) (b : Bool) → before_from (n + 1 + 1) name ss ≡ before_from (n + 1) name ss + 1 → cond b (before_from (n + 1 + 1) name ss) (n + 1) ≡ cond b (before_from (n + 1) name ss) n + 1
   either n name ss true h = h
@@ -125,9 +125,9 @@ pub placed-stand : (ss : List Stored) (db : Database) (new : Stored) (t' : Table
 placed-stand [] [] new t' stand stands = (stands, tt)
 placed-stand [] (t ∷ ts) new t' stand stands = absurd stand
 placed-stand (s ∷ ss) [] new t' stand stands = absurd stand
-placed-stand (s ∷ ss) (t ∷ ts) new t' stand stands = either s ss t ts new t' (is_gt (slice_cmp nat_cmp t'.name s.name)) refl stand stands (placed-stand ss ts new t' stand.1 stands)
+placed-stand (s ∷ ss) (t ∷ ts) new t' stand stands = either s ss t ts new t' (is_gt (slice_cmp nat_cmp t'.name s.table.name)) refl stand stands (placed-stand ss ts new t' stand.1 stands)
   where
-  either : (s : Stored) (ss : List Stored) (t : Table) (ts : Database) (new : Stored) (t' : Table) (b : Bool) → is_gt (slice_cmp nat_cmp t'.name s.name) ≡ b → StandFor (s ∷ ss) (t ∷ ts) → StandsFor new t'
+  either : (s : Stored) (ss : List Stored) (t : Table) (ts : Database) (new : Stored) (t' : Table) (b : Bool) → is_gt (slice_cmp nat_cmp t'.name s.table.name) ≡ b → StandFor (s ∷ ss) (t ∷ ts) → StandsFor new t'
       → StandFor (insert ss (before_from 0 t'.name ss) new) (placed t' ts) → StandFor (insert (s ∷ ss) (before_from 0 t'.name (s ∷ ss)) new) (placed t' (t ∷ ts))
   either s ss t ts new t' true at stand stands further =
       let own : is_gt (slice_cmp nat_cmp t'.name t.name) ≡ true = ap (λ (m : Name). is_gt (slice_cmp nat_cmp t'.name m)) (sym stand.0.name_is) ∙ at in
@@ -143,8 +143,8 @@ finds-named name [] [] stand = tt
 finds-named name [] (t ∷ ts) stand = absurd stand
 finds-named name (s ∷ ss) [] stand = absurd stand
 finds-named name (s ∷ ss) (t ∷ ts) stand =
-    let own : same_name t.name name ≡ same_name s.name name = ap (λ (m : Name). same_name m name) (sym stand.0.name_is) in
-    either name s ss t ts (same_name s.name name) (same_name t.name name) own stand.0 (finds-named name ss ts stand.1)
+    let own : same_name t.name name ≡ same_name s.table.name name = ap (λ (m : Name). same_name m name) (sym stand.0.name_is) in
+    either name s ss t ts (same_name s.table.name name) (same_name t.name name) own stand.0 (finds-named name ss ts stand.1)
   where
   either : (name : Name) (s : Stored) (ss : List Stored) (t : Table) (ts : Database) (b d : Bool) → d ≡ b → StandsFor s t → Finds (named name ss) (table_of name ts) → Finds (cond b (Some s) (named name ss)) (cond d (Some t) (table_of name ts))
   either name s ss t ts true true is here further = here
@@ -180,8 +180,8 @@ option_or-none : {X : Type 0} (o : Option X) → o ≡ option_or o None
 option_or-none None = refl
 option_or-none (Some x) = refl
 
-pub insert_there : (s : Stored) (o : Option Table) (db : Database) (name : Name) (rows : List (List Value)) → Finds (Some s) o → o ≡ table_of name db → first_bad_row 1 s.columns rows ≡ first_refusal (insert_checks name (table_of name db) rows)
+pub insert_there : (s : Stored) (o : Option Table) (db : Database) (name : Name) (rows : List (List Value)) → Finds (Some s) o → o ≡ table_of name db → first_bad_row 1 s.table.schema.columns rows ≡ first_refusal (insert_checks name (table_of name db) rows)
 insert_there s None db name rows finds is = absurd finds
 insert_there s (Some t) db name rows finds is =
-    let same : first_bad_row 1 s.columns rows ≡ first_bad_row 1 t.columns rows = ap (λ (cs : List Column). first_bad_row 1 cs rows) finds.columns_are in
+    let same : first_bad_row 1 s.table.schema.columns rows ≡ first_bad_row 1 t.columns rows = ap (λ (cs : List Column). first_bad_row 1 cs rows) finds.columns_are in
     rw (← is) (same ∙ option_or-none (first_bad_row 1 t.columns rows))

@@ -15,12 +15,13 @@ use Rattle.iq_ast.specs.declared.statements.Statement.TheVariants as statements
 use Rattle.iq_ast.specs.declared.statements.Write.{Write}
 use Rattle.iq_ast.specs.declared.statements.Write.TheVariants as writes
 use Rattle.iq_ast.specs.declared.statements.Item.{Item}
+use Rattle.iq_base.specs.Limits.{row_limit}
 use Rattle.iq_history.specs.Placed.{IsPlacedRefusal}
 use Rattle.iq_model.specs.declared.scripts.Line.{Line}
 use Rattle.iq_model.specs.declared.scripts.Deed.{Deed}
 use Rattle.iq_model.specs.declared.scripts.Deed.TheVariants as deeds
 use Rattle.iq_model.specs.Tables.{Database, Table, table_of}
-use Rattle.iq_model.specs.Statements.{Check, first_refusal, found_if, column_place, item_column, no_column, first_no_column, field_cause, bad_field, first_bad_field, bad_row, first_bad_row, most_tables, row_limit, insert_checks, select_checks, write_checks, statement_checks, room_check, room_checks}
+use Rattle.iq_model.specs.Statements.{Check, first_refusal, found_if, column_place, item_column, no_column, first_no_column, field_cause, bad_field, first_bad_field, bad_row, first_bad_row, most_tables, insert_checks, select_checks, write_checks, statement_checks, room_check, room_checks}
 use Rattle.iq_model.specs.State.{Stage, fresh, begun, locked, done, Desk, Run, State, Standing, idle, lost, running}
 use Rattle.iq_model.specs.History.{DeskIs, DeedIs, LineIs, IsOpen, IsRunning}
 use Rattle.iq_plex.specs.Plex.{MayRefuse, MayRefuseAt, CanRefuseLine}
@@ -106,7 +107,7 @@ statement_placed n statements.Sync db more p = p
 
 room_placed : (n : ℕ) (found : Option Table) (count : ℕ) → Unplaced n (first_refusal (room_check found count))
 room_placed n None count = tt
-room_placed n (Some t) count = either n (found_if (nat_lt row_limit (length t.slots + count)) (refusals.TableFull row_limit)) None (by_test n (nat_lt row_limit (length t.slots + count)) (refusals.TableFull row_limit) tt) tt
+room_placed n (Some t) count = either n (found_if (nat_lt (row_limit t.columns) (length t.slots + count)) (refusals.TableFull (row_limit t.columns))) None (by_test n (nat_lt (row_limit t.columns) (length t.slots + count)) (refusals.TableFull (row_limit t.columns)) tt) tt
 
 write_room_placed : (n : ℕ) (write : Write) (db : Database) → Unplaced n (first_refusal (room_checks (statements.Write write) db))
 write_room_placed n (writes.CreateTable name schema) db = tt

@@ -2,7 +2,9 @@
 #![tactic(auto)]
 
 mod plex;
+mod queries;
 mod stored;
 mod tables;
+mod writes;
 
 pub use plex::Plex;

@@ -5,13 +5,15 @@ ghost use Rattle.iq_base.specs.declared.nodes.SessionSpec.{SessionSpec};
 ghost use Rattle.iq_ast.specs.declared.statements.Statement.TheVariants as statements;
 ghost use Rattle.iq_history.specs.declared.entries.Entry.TheVariants as entries;
 ghost use Rattle.iq_model.specs.Statements.{first_refusal, statement_checks, answer};
-ghost use Rattle.iq_ast.specs.Built.{IsBuiltWrite};
+ghost use Rattle.iq_ast.specs.Built.{IsBuiltWrite, IsPlainSelect};
 ghost use Rattle.iq_model.specs.Scripts.{IsRunnable, HasFewTuples};
 ghost use Rattle.iq_model.specs.History.{IsPossible};
 ghost use Rattle.iq_plex.specs.Kept.{IsReadyFor};
 
+use crate::queries;
 use crate::stored::Stored;
 use crate::tables;
+use crate::writes;
 use iq_ast::{Select, Write};
 use iq_base::{Listed, Locks, Name, NodeSpec, NoMemory, Out, Refusal, SessionSpec};
 use iq_history::{Entry, History};
@@ -107,20 +109,21 @@ impl Plex {
         ensures err { IfErr result (λ cause. OfSeen self.old (λ db. IsTableCause (statements.Write write.now) db cause)) }
         ensures unchanged { OnErr result (self.new ≡ self.old) }
     {
-        tables::write(alloc, &mut self.tables, write)?;
+        writes::write(alloc, &mut self.tables, write)?;
         self.history.push(Entry::Done { s, l: line });
         Ok(())
     }
 
     /// Answers a query over the tables as the line's transaction sees them, or what refuses it; then nothing changes.
     pub fn select(&mut self, alloc: Global, s: u32, line: u32, select: &Select) -> Result<Listed<Listed<Out>>, Refusal>
-        requires { HoldsLine (state_of self.old) s line (statements.Select select.now) }
+        requires holds { HoldsLine (state_of self.old) s line (statements.Select select.now) }
+        requires plain { IsPlainSelect select.now }
         ensures answer { IfOk result (λ rows. OfSeen self.old (λ db. rows ≡ answer select.now db)) }
         ensures ok { OnOk result (IsNext self.old (entries.Done s line) self.new) }
         ensures err { IfErr result (λ cause. OfSeen self.old (λ db. IsTableCause (statements.Select select.now) db cause)) }
         ensures unchanged { OnErr result (self.new ≡ self.old) }
     {
-        let rows = tables::select(alloc, &mut self.tables, select)?;
+        let rows = queries::select(alloc, &mut self.tables, select)?;
         self.history.push(Entry::Done { s, l: line });
         Ok(rows)
     }

@@ -1,13 +1,13 @@
 //! A stored table.
 ghost use Rattle.std.specs.Prelude.{◌≤◌, length};
 
-use iq_base::{Column, Listed, Name};
+use iq_base::MemoryPages;
+use iq_table::Table;
 
-/// A table and its pages.
+/// A table and its pages, which are in memory.
 #[derive(Drop)]
 pub struct Stored {
-    pub name: Name,
-    pub columns: Listed<Column>,
-    pub slots: u32,
-    ghost few_columns: { length columns ≤ 32 },
+    pub table: Table,
+    pub pages: MemoryPages,
+    ghost few_columns: { length table.schema.columns ≤ 32 },
 }

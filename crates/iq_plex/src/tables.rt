@@ -1,25 +1,23 @@
-//! Stored tables in the order of their names.
-ghost use Rattle.std.specs.Prelude.{◌≡◌, ◌≤◌, ◌<◌, ◌⊎◌, length, Option, Some, None, ◌++◌, MatchResult, OnOk, OnErr, IfErr, IfOk, IfSome};
+//! Stored tables in the order of their names: look-ups, and the tests of a write.
+ghost use Rattle.std.specs.Prelude.{◌≡◌, ◌≤◌, ◌<◌, length, Option, Some, None, IfSome};
 ghost use Rattle.std.specs.Option.{option_copied};
 ghost use Rattle.iq_ast.specs.declared.statements.Statement.TheVariants as statements;
 ghost use Rattle.iq_ast.specs.Built.{IsBuiltWrite};
 ghost use Rattle.iq_model.specs.Scripts.{HasFewTuples};
 ghost use Rattle.iq_model.specs.Tables.{Database, table_of};
-ghost use Rattle.iq_model.specs.Statements.{first_refusal, create_checks, insert_checks, statement_checks, answer, effect};
-ghost use Rattle.iq_plex.specs.Plex.{IsTableCause, IsGranted};
-ghost use Rattle.iq_plex.specs.Stored.{StandFor, Finds, named, place_from};
+ghost use Rattle.iq_model.specs.Statements.{first_refusal, create_checks, insert_checks, statement_checks};
+ghost use Rattle.iq_plex.specs.Stored.{StandFor, Finds, named, place_from, before_from};
 
 use crate::stored::Stored;
-use iq_ast::{Select, Write};
-use iq_base::{Listed, Name, Out, Refusal, Row};
+use iq_ast::Write;
+use iq_base::{Name, Refusal, Row};
 use iq_model::first_bad_row;
-use std::alloc::Global;
 
 /// How many tables there can be.
 const MOST_TABLES: usize = 64;
 
 /// The first refusal of what a write names and of its values.
-pub(crate) fn check(tables: &[Stored], write: &Write) -> Option<Refusal>
+pub fn check(tables: &[Stored], write: &Write) -> Option<Refusal>
     requires built { IsBuiltWrite write.now }
     requires few { HasFewTuples (statements.Write write.now) }
     ensures { (db : Database) → StandFor tables.now db → result ≡ first_refusal (statement_checks (statements.Write write.now) db) }
@@ -31,7 +29,7 @@ pub(crate) fn check(tables: &[Stored], write: &Write) -> Option<Refusal>
     }
 }
 
-fn check_create(tables: &[Stored], name: &Name) -> Option<Refusal>
+pub fn check_create(tables: &[Stored], name: &Name) -> Option<Refusal>
     ensures { (db : Database) → StandFor tables.now db → result ≡ first_refusal (create_checks name.now db) }
 {
     match find(tables, name) {
@@ -47,7 +45,7 @@ fn check_insert(tables: &[Stored], name: &Name, rows: &[Row]) -> Option<Refusal>
 {
     match find(tables, name) {
         None => Some(Refusal::NoTable { name: name.again() }),
-        Some(stored) => first_bad_row(stored.columns.as_slice(), rows),
+        Some(stored) => first_bad_row(stored.table.schema.columns.as_slice(), rows),
     }
 }
 
@@ -62,37 +60,32 @@ fn find<'a>(tables: &'a [Stored], name: &Name) -> Option<&'a Stored>
 fn first_named<'a>(tables: &'a [Stored], name: &Name) -> Option<&'a Stored>
     ensures { option_copied result ≡ named name.now tables.now }
 {
-    tables.iter().find(|stored| stored.name == *name)
+    tables.iter().find(|stored| stored.table.name == *name)
 }
 
 /// The place of the table of a name.
-fn place_of(tables: &[Stored], name: &Name) -> Option<usize>
+pub fn place_of(tables: &[Stored], name: &Name) -> Option<usize>
     ensures place { result ≡ place_from 0 name.now tables.now }
     ensures within { IfSome result (λ i. i < length tables.now) }
 {
     for (i, stored) in tables.iter().enumerate() {
-        if stored.name == *name {
+        if stored.table.name == *name {
             return Some(i);
         }
     }
     None
 }
 
-/// Writes the effect of a statement into the tables, or answers what refuses it and leaves them standing as they stood.
-pub(crate) fn write(alloc: Global, tables: &mut Vec<Stored>, write: &Write) -> Result<(), Refusal>
-    requires built { IsBuiltWrite write.now }
-    requires few { HasFewTuples (statements.Write write.now) }
-    ensures ok { OnOk result ((db : Database) → StandFor tables.old.items db → IsGranted (statements.Write write.now) db × StandFor tables.new.items (effect write.now db)) }
-    ensures err { IfErr result (λ cause. (db : Database) → StandFor tables.old.items db → IsTableCause (statements.Write write.now) db cause × StandFor tables.new.items db) }
+/// How many tables stand before the first whose name isn't below this one.
+pub fn before(tables: &[Stored], name: &Name) -> usize
+    ensures place { result ≡ before_from 0 name.now tables.now }
+    ensures within { result ≤ length tables.now }
 {
-    Err(Refusal::NoMemory)
-}
-
-/// The rows of a query, or what refuses it.
-pub(crate) fn select(alloc: Global, tables: &mut Vec<Stored>, select: &Select) -> Result<Listed<Listed<Out>>, Refusal>
-    ensures ok { IfOk result (λ rows. (db : Database) → StandFor tables.old.items db → IsGranted (statements.Select select.now) db × (rows ≡ answer select.now db)) }
-    ensures err { IfErr result (λ cause. (db : Database) → StandFor tables.old.items db → IsTableCause (statements.Select select.now) db cause) }
-    ensures stands { (db : Database) → StandFor tables.old.items db → StandFor tables.new.items db }
-{
-    Err(Refusal::NoMemory)
+    for (i, stored) in tables.iter().enumerate() {
+        if *name > stored.table.name {
+            continue;
+        }
+        return i;
+    }
+    tables.len()
 }

@@ -8,7 +8,7 @@ use Rattle.iq_base.specs.declared.values.Kind.TheVariants.{Int, Big, Varchar}
 use Rattle.iq_base.specs.declared.schemas.Column.{Column}
 use Rattle.iq_base.specs.Cells.{width}
 use Rattle.iq_table.specs.Layout.{per_page}
-use Rattle.iq_table.specs.Limits.{text_length, limit_for, longest}
+use Rattle.iq_base.specs.Limits.{text_length, limit_for, longest}
 use Rattle.iq_table.specs.Table.{kind_at}
 
 -- no limit is above the first

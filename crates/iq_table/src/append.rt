@@ -1,6 +1,6 @@
 //! Appending to the columns of a table.
 ghost use Rattle.std.specs.Prelude.{◌≡◌, ◌<◌, ◌≤◌, ◌+◌, ◌*◌, ◌/◌, ◌%◌, ◌^◌, length, OnOk, OnErr, IfErr};
-ghost use Rattle.iq_table.specs.Limits.{limit_for, text_length, row_limit};
+ghost use Rattle.iq_base.specs.Limits.{limit_for, text_length, row_limit};
 ghost use Rattle.iq_table.specs.Table.{AreRowsOf, StandsForMore, StandsStill, KeepsTheRest, HasTableCause};
 ghost use Rattle.iq_table.specs.Layout.{per_page, column_of, CanHoldAll};
 ghost use Rattle.iq_table.specs.Reading.{HasColumnCause};

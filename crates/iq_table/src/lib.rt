@@ -7,12 +7,10 @@
 
 mod append;
 mod decode;
-mod limits;
 mod page_cells;
 mod pages;
 mod read;
 mod rows;
 mod table;
 
-pub use limits::row_limit;
 pub use table::Table;

@@ -1,7 +1,7 @@
 //! The cells of one page.
 ghost use Rattle.std.specs.Prelude.{◌≡◌, ◌≢◌, ◌<◌, ◌≤◌, ℕ, ◌+◌, ◌*◌, length, List};
 ghost use Rattle.iq_base.specs.Cells.{IsOf, IsCell};
-ghost use Rattle.iq_table.specs.Limits.{limit_for, text_length};
+ghost use Rattle.iq_base.specs.Limits.{limit_for, text_length};
 ghost use Rattle.iq_table.specs.Layout.{per_page, cell_in, value_at, CanHoldAll, HoldsFrom};
 
 use iq_base::{Kind, Page, Row, Value, cell_put, width};

@@ -1,7 +1,7 @@
 //! A table: its name, its columns and its number of rows.
 ghost use Rattle.std.specs.Prelude.{◌≡◌, ◌<◌, ◌≤◌, ℕ, ◌+◌, [], length, slice_index, OnOk, OnErr, IfOk, IfErr};
 ghost use Rattle.iq_base.specs.Pages.{ReadsMore};
-ghost use Rattle.iq_table.specs.Limits.{row_limit};
+ghost use Rattle.iq_base.specs.Limits.{row_limit};
 ghost use Rattle.iq_table.specs.Reading.{pages_for};
 ghost use Rattle.iq_table.specs.Table.{kind_at, object_of, AreRowsOf, Stands, TableStands, Gains, Keeps, KeepsTheRest, TellsObjects, GivesValues, GivesRows, pages_of, HasTableCause, HasMakeCause};
 

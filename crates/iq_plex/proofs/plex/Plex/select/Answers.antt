@@ -6,7 +6,7 @@ use Rattle.iq_plex.proofs.plex.Plex.select.Goals as goal
 
 pub invariant_of-self-2 : goal.invariant_of-self-2
 invariant_of-self-2 c =
-    let holds = rw (← c.self.view_is) at c.requires in
+    let holds = rw (← c.self.view_is) at c.requires.holds in
     let found = c.in_ok-rows.ensures.ok c.self.invariant.seen c.self.invariant.tables_stand in
     kept_write c.self.inside.script.value c.self.inside.history c.push.new.self c.self.inside.tables.items c.select.new.tables.items c.self.inside.latest c.args.s c.args.line (statements.Select c.args.select.now) c.self.invariant holds c.push.ensures found.0
       (c.in_ok-rows.ensures.stands c.self.invariant.seen c.self.invariant.tables_stand)

@@ -1,8 +1,9 @@
 //! How many rows a table may have.
 ghost use Rattle.std.specs.Prelude.{◌≡◌};
-ghost use Rattle.iq_table.specs.Limits.{text_length, limit_for, longest, row_limit};
+ghost use Rattle.iq_base.specs.Limits.{text_length, limit_for, longest, row_limit};
 
-use iq_base::{Column, Kind};
+use crate::schemas::Column;
+use crate::values::Kind;
 
 /// How many rows a table of these columns may have: 262,144, and fewer where a text may have more than 105 bytes.
 pub fn row_limit(columns: &[Column]) -> u32

@@ -1,0 +1,17 @@
+use Rattle.std.proofs.Common.{◌≡◌, List, Option, None, refl, sym, ◌∙◌, subst, ap}
+use Rattle.std.specs.Prelude.{insert}
+use Rattle.iq_model.specs.Tables.{empty_table, placed}
+use Rattle.iq_plex.specs.declared.stored.Stored.{Stored}
+use Rattle.iq_plex.specs.Stored.{StandFor, before_from}
+use Rattle.iq_plex.proofs.LookUps.{placed-stand}
+use Rattle.iq_plex.proofs.writes.create.Goals as goal
+
+pub returns-clause-ok : goal.returns-clause-ok
+returns-clause-ok c = λ db stand.
+    let here = subst (λ (ss : List Stored). StandFor ss db) (sym c.as_slice.ensures.value) stand in
+    let new = empty_table c.args.name.now c.args.columns.now in
+    let place = c.before-place.ensures.place ∙ ap (before_from 0 c.args.name.now) c.as_slice-2.ensures.value in
+    let items = c.in_ok-insert.ensures.items in
+    (sym (c.check_create.ensures db here) ∙ c.in_default.is,
+     subst (λ (ss : List Stored). StandFor ss (placed new db)) (sym items)
+       (rw place (placed-stand c.args.tables.now.items db c.in_ok-stored.stored new stand c.in_ok-stored.ensures)))
