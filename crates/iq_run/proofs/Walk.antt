@@ -1,5 +1,5 @@
 -- The steps of one line, from where the session stands to where it stands next.
-use Rattle.std.proofs.Common.{◌≡◌, ◌≢◌, ℕ, ◌+◌, List, [], ◌∷◌, ◌++◌, refl, sym, ◌∙◌, ap, subst, Option, Some, None, ◌⊎◌, inl, inr, drop}
+use Rattle.std.proofs.Common.{◌≡◌, ◌≢◌, ℕ, zero, suc, ◌+◌, ◌<◌, length, get_or, append_assoc, add-one, drop-cons, arith, List, [], ◌∷◌, ◌++◌, refl, sym, ◌∙◌, ap, subst, Option, Some, None, ◌⊎◌, inl, inr, drop}
 use Rattle.iq_base.specs.declared.names.Name.{Name}
 use Rattle.iq_base.specs.declared.refusals.Refusal.{Refusal}
 use Rattle.iq_base.specs.declared.refusals.Refusal.TheVariants as refusals
@@ -25,6 +25,11 @@ use Rattle.iq_model.specs.History.{DeskIs, IsOnTables, IsOpen, IsRunning, IsPoss
 use Rattle.iq_plex.specs.Plex.{PlexState, state_of, replies_of, desk_of, IsAt, IsNext, CanBeginLine, CanLockLine, CanRefuseLine, HoldsLine, AsksBegin, AsksHeld, MayLock, MayRefuseAt, OfSeen, IsTableCause}
 use Rattle.iq_plex.proofs.Names.{not_held-none, not_held-self}
 use Rattle.iq_plex.proofs.Walking.{desk_at, at_begin, at_lock, at_done, at_refused, at_end, at_commit, with_names, with_effect, replies-commit, replies-end}
+use Rattle.std.proofs.lemmas.List.Elements.{All-push}
+use Rattle.std.specs.List.{AllByRecursion}
+use Rattle.iq_model.specs.Scripts.{IsRunnableLine}
+use Rattle.iq_render.specs.Placed.{IsPlacedSaid}
+use Rattle.iq_run.specs.Runs.{RunsLines}
 use Rattle.iq_run.specs.Lines.{IsUnder, IsNextLine, Runs, HoldsNone, MayHold, HoldsNames, EndsLine}
 
 -- what holds of the desk of the line under way
@@ -143,3 +148,30 @@ can_refuse_select p n select cause r told = either (seen_of p n (statements.Sele
   either (inr found) =
       can_refuse p n (statements.Select select) cause HoldsNone r
         (sym (ap first_refusal (checks_nil (statement_checks (statements.Select select) r.run.now.seen))) ∙ found)
+
+-- LINES IN THEIR ORDER
+
+-- one line more was run
+pub run_more : (first p q : PlexState) (lines : List Line) (i : ℕ) (line : Line) (reply : Reply) (rs : List Reply) → line ≡ get_or lines i line → i < length lines
+    → RunsLines first (drop i lines) rs p → EndsLine p reply q → IsPlacedSaid 1 1 reply.said → RunsLines first (drop (i + 1) lines) (rs ++ reply ∷ []) q
+run_more first p q lines i line reply rs is lt runs ends placed =
+    let here : drop i lines ≡ line ∷ drop (i + 1) lines = rw (add-one, drop-cons lines i line) (ap (λ (l : Line). l ∷ drop (suc i) lines) (sym is)) in
+    record {
+      same_script = ends.same_script ∙ runs.same_script;
+      same_opening = ends.same_opening ∙ runs.same_opening;
+      at = ends.at idle fresh line (drop (i + 1) lines) (subst (IsAt p idle fresh) here runs.at);
+      replies_are = ends.replies_are ∙ ap (λ (xs : List Reply). xs ++ reply ∷ []) runs.replies_are ∙ append_assoc (replies_of first) rs (reply ∷ []);
+      placed = All-push (λ (r : Reply). IsPlacedSaid 1 1 r.said) rs reply runs.placed placed;
+    }
+
+-- what is left behind a place of lines of the grammar is of the grammar
+pub grammar_more : (lines : List Line) (i : ℕ) → i < length lines → AllByRecursion IsRunnableLine (drop i lines) → AllByRecursion IsRunnableLine (drop (i + 1) lines)
+grammar_more lines zero lt all = first lines lt all
+  where
+  first : (lines : List Line) → 0 < length lines → AllByRecursion IsRunnableLine lines → AllByRecursion IsRunnableLine (drop 1 lines)
+  first [] lt all = absurd (omega arith)
+  first (l ∷ ls) lt all = all.1
+grammar_more [] (suc i) lt all = absurd (omega arith)
+grammar_more (l ∷ ls) (suc i) lt all =
+    let same : suc i + 1 ≡ suc (i + 1) = omega arith in
+    subst (λ (n : ℕ). AllByRecursion IsRunnableLine (drop n (l ∷ ls))) (sym same) (grammar_more ls i (omega arith) all)

@@ -48,3 +48,8 @@ pub record EndsLine (old : PlexState) (reply : Reply) (new : PlexState) : Type 0
   pub same_opening : new.opening ≡ old.opening
   pub at : (standing : Standing) (stage : Stage) (line : Line) (rest : List Line) → IsAt old standing stage (line ∷ rest) → IsAt new idle fresh rest
   pub replies_are : replies_of new ≡ replies_of old ++ reply ∷ []
+
+-- this line is the next of those that are left
+pub record IsNext (p : PlexState) (line : Line) : Type 0 where
+  pub rest : List Line
+  pub at : IsAt p idle fresh (line ∷ rest)

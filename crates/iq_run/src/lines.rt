@@ -6,6 +6,7 @@ ghost use Rattle.iq_model.specs.Scripts.{HasFewTuples};
 ghost use Rattle.iq_model.specs.State.{begun, locked, done};
 ghost use Rattle.iq_model.specs.History.{write_said};
 ghost use Rattle.iq_plex.specs.Plex.{state_of, CanRefuseLine};
+ghost use Rattle.iq_render.specs.Placed.{IsPlacedSaid};
 ghost use Rattle.iq_run.specs.Lines.{IsNextLine, Runs, HoldsNone, MayHold, HoldsNames, EndsLine};
 
 use iq_ast::{Select, Write};
@@ -17,7 +18,8 @@ use std::alloc::Global;
 /// Runs a write as a transaction of its own.
 pub(crate) fn run_write(alloc: Global, plex: &mut Plex, line: u32, write: &Write) -> Reply
     requires { IsNextLine plex.old line (statements.Write write.now) }
-    ensures { EndsLine plex.old result plex.new }
+    ensures line { EndsLine plex.old result plex.new }
+    ensures placed { IsPlacedSaid 1 1 result.said }
 {
     plex.begin(0, line);
     match plex.check(write) {
@@ -29,7 +31,8 @@ pub(crate) fn run_write(alloc: Global, plex: &mut Plex, line: u32, write: &Write
 /// Locks the names of a write that nothing refuses, and lets it take effect.
 fn lock_and_write(alloc: Global, plex: &mut Plex, line: u32, write: &Write) -> Reply
     requires { Runs plex.old begun line (statements.Write write.now) (MayHold (statements.Write write.now)) }
-    ensures { EndsLine plex.old result plex.new }
+    ensures line { EndsLine plex.old result plex.new }
+    ensures placed { IsPlacedSaid 1 1 result.said }
 {
     plex.lock(0, line, names_of(write));
     match plex.write(alloc, 0, line, write) {
@@ -41,7 +44,8 @@ fn lock_and_write(alloc: Global, plex: &mut Plex, line: u32, write: &Write) -> R
 /// Commits a write that took effect.
 fn commit(plex: &mut Plex, line: u32, write: &Write) -> Reply
     requires { Runs plex.old done line (statements.Write write.now) (λ run. run.now.held ≢ []) }
-    ensures { EndsLine plex.old result plex.new }
+    ensures line { EndsLine plex.old result plex.new }
+    ensures placed { IsPlacedSaid 1 1 result.said }
 {
     let number = plex.commit(0, line);
     Reply { line, said: written(write, Some(number)) }
@@ -50,7 +54,8 @@ fn commit(plex: &mut Plex, line: u32, write: &Write) -> Reply
 /// Runs a query as a transaction of its own.
 pub(crate) fn run_select(alloc: Global, plex: &mut Plex, line: u32, select: &Select) -> Reply
     requires { IsNextLine plex.old line (statements.Select select.now) }
-    ensures { EndsLine plex.old result plex.new }
+    ensures line { EndsLine plex.old result plex.new }
+    ensures placed { IsPlacedSaid 1 1 result.said }
 {
     plex.begin(0, line);
     match plex.select(alloc, 0, line, select) {
@@ -65,7 +70,8 @@ pub(crate) fn run_select(alloc: Global, plex: &mut Plex, line: u32, select: &Sel
 /// Refuses the line under way.
 fn refuse(plex: &mut Plex, line: u32, cause: Refusal) -> Reply
     requires { CanRefuseLine (state_of plex.old) 0 line cause }
-    ensures { EndsLine plex.old result plex.new }
+    ensures line { EndsLine plex.old result plex.new }
+    ensures placed { IsPlacedSaid 1 1 result.said }
 {
     plex.refuse(0, line, &cause);
     Reply { line, said: Said::Refused(cause) }
@@ -74,7 +80,8 @@ fn refuse(plex: &mut Plex, line: u32, cause: Refusal) -> Reply
 /// What a write that took effect is answered.
 fn written(write: &Write, commit: Option<u64>) -> Said
     requires { HasFewTuples (statements.Write write.now) }
-    ensures { result ≡ write_said write.now commit }
+    ensures said { result ≡ write_said write.now commit }
+    ensures placed { IsPlacedSaid 1 1 result }
 {
     match write {
         Write::CreateTable { .. } => Said::Created { commit },
