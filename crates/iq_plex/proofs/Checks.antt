@@ -30,9 +30,9 @@ latest_of-within : (latest : ℕ) (name : Name) (wrote : List Written) → AllBy
 latest_of-within latest name [] all = omega arith
 latest_of-within latest name (w ∷ wrote) all = either latest w (find (λ (w : Written). same_name w.name name) wrote) (same_name w.name name) all.0 (latest_of-within latest name wrote all.1)
   where
-  either : (latest : ℕ) (w : Written) (rest : Option Written) (b : Bool) → w.commit ≤ latest → commit_of rest ≤ latest → commit_of (cond b (Some w) rest) ≤ latest
-  either latest w rest true here later = here
-  either latest w rest false here later = later
+    either : (latest : ℕ) (w : Written) (rest : Option Written) (b : Bool) → w.commit ≤ latest → commit_of rest ≤ latest → commit_of (cond b (Some w) rest) ≤ latest
+    either latest w rest true here later = here
+    either latest w rest false here later = later
 
 pub first_later-one : (latest : ℕ) (wrote : List Written) (names : List Name) → AllByRecursion (IsWrittenBy latest) wrote → first_later wrote latest names ≡ None
 first_later-one latest wrote [] all = refl

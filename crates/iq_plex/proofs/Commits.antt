@@ -28,12 +28,12 @@ pub table_of-named : (name : Name) (db : Database) (t : Table) → table_of name
 table_of-named name [] t h = cc
 table_of-named name (u ∷ us) t h = by_test name us u t (same_name u.name name) refl h (table_of-named name us t)
   where
-  by_test : (name : Name) (us : Database) (u t : Table) (b : Bool) → same_name u.name name ≡ b → cond (same_name u.name name) (Some u) (table_of name us) ≡ Some t → (table_of name us ≡ Some t → t.name ≡ name) → t.name ≡ name
-  by_test name us u t true is h further =
-      let found : Some u ≡ Some t = sym (rw is refl) ∙ h in
-      let same : u ≡ t = cc in
-      subst (λ (x : Table). x.name ≡ name) same (same_name-true u.name name is)
-  by_test name us u t false is h further = further (sym (rw is refl) ∙ h)
+    by_test : (name : Name) (us : Database) (u t : Table) (b : Bool) → same_name u.name name ≡ b → cond (same_name u.name name) (Some u) (table_of name us) ≡ Some t → (table_of name us ≡ Some t → t.name ≡ name) → t.name ≡ name
+    by_test name us u t true is h further =
+        let found : Some u ≡ Some t = sym (rw is refl) ∙ h in
+        let same : u ≡ t = cc in
+        subst (λ (x : Table). x.name ≡ name) same (same_name-true u.name name is)
+    by_test name us u t false is h further = further (sym (rw is refl) ∙ h)
 
 named : (t : Table) (name : Name) → t.name ≡ name → same_name t.name name ≡ true
 named t name is = ap (λ (n : Name). same_name n name) is ∙ same_name-refl name
@@ -43,25 +43,25 @@ pub table_of-replaced : (name : Name) (db : Database) (t new : Table) → new.na
 table_of-replaced name [] t new is h = cc
 table_of-replaced name (u ∷ us) t new is h = by_test name us u t new is (same_name u.name name) refl h (table_of-replaced name us t new is)
   where
-  by_test : (name : Name) (us : Database) (u t new : Table) → new.name ≡ name → (b : Bool) → same_name u.name name ≡ b → cond (same_name u.name name) (Some u) (table_of name us) ≡ Some t
-      → (table_of name us ≡ Some t → table_of name (replaced new us) ≡ Some new) → table_of name (replaced new (u ∷ us)) ≡ Some new
-  by_test name us u t new is true here h further =
-      let there : same_name u.name new.name ≡ true = ap (same_name u.name) is ∙ here in
-      rw (there, named new name is) refl
-  by_test name us u t new is false here h further =
-      let there : same_name u.name new.name ≡ false = ap (same_name u.name) is ∙ here in
-      rw (there, here) (further (sym (rw here refl) ∙ h))
+    by_test : (name : Name) (us : Database) (u t new : Table) → new.name ≡ name → (b : Bool) → same_name u.name name ≡ b → cond (same_name u.name name) (Some u) (table_of name us) ≡ Some t
+        → (table_of name us ≡ Some t → table_of name (replaced new us) ≡ Some new) → table_of name (replaced new (u ∷ us)) ≡ Some new
+    by_test name us u t new is true here h further =
+        let there : same_name u.name new.name ≡ true = ap (same_name u.name) is ∙ here in
+        rw (there, named new name is) refl
+    by_test name us u t new is false here h further =
+        let there : same_name u.name new.name ≡ false = ap (same_name u.name) is ∙ here in
+        rw (there, here) (further (sym (rw here refl) ∙ h))
 
 -- a table that was put in where there was none of its name is found
 pub table_of-placed : (name : Name) (db : Database) (new : Table) → new.name ≡ name → table_of name db ≡ None → table_of name (placed new db) ≡ Some new
 table_of-placed name [] new is h = rw (named new name is) refl
 table_of-placed name (u ∷ us) new is h = by_test name us u new is (same_name u.name name) refl (is_gt (slice_cmp nat_cmp new.name u.name)) refl h (table_of-placed name us new is)
   where
-  by_test : (name : Name) (us : Database) (u new : Table) → new.name ≡ name → (b : Bool) → same_name u.name name ≡ b → (g : Bool) → is_gt (slice_cmp nat_cmp new.name u.name) ≡ g
-      → cond (same_name u.name name) (Some u) (table_of name us) ≡ None → (table_of name us ≡ None → table_of name (placed new us) ≡ Some new) → table_of name (placed new (u ∷ us)) ≡ Some new
-  by_test name us u new is true here g past h further = let clash : Some u ≡ None = sym (rw here refl) ∙ h in cc
-  by_test name us u new is false here true past h further = rw (past, here) (further (sym (rw here refl) ∙ h))
-  by_test name us u new is false here false past h further = rw (past, named new name is) refl
+    by_test : (name : Name) (us : Database) (u new : Table) → new.name ≡ name → (b : Bool) → same_name u.name name ≡ b → (g : Bool) → is_gt (slice_cmp nat_cmp new.name u.name) ≡ g
+        → cond (same_name u.name name) (Some u) (table_of name us) ≡ None → (table_of name us ≡ None → table_of name (placed new us) ≡ Some new) → table_of name (placed new (u ∷ us)) ≡ Some new
+    by_test name us u new is true here g past h further = let clash : Some u ≡ None = sym (rw here refl) ∙ h in cc
+    by_test name us u new is false here true past h further = rw (past, here) (further (sym (rw here refl) ∙ h))
+    by_test name us u new is false here false past h further = rw (past, named new name is) refl
 
 -- the written names of a transaction that holds one table's name
 written-one : (seen : Database) (name : Name) → is_reserved name ≡ false → written_names (record { seen = seen; held = name ∷ []; created = [] }) ≡ name ∷ []

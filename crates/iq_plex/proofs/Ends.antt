@@ -52,9 +52,9 @@ room_cause s place run st cause free found =
     ∙ sym (first_refusal-append (statement_checks st run.now.seen) (room_checks st run.now.seen))
     ∙ found
   where
-  past_none : (a b c : Option Refusal) → b ≡ None → option_or (option_or a b) c ≡ option_or a c
-  past_none None b c none = ap (λ x. option_or x c) none
-  past_none (Some x) b c none = refl
+    past_none : (a b c : Option Refusal) → b ≡ None → option_or (option_or a b) c ≡ option_or a c
+    past_none None b c none = ap (λ x. option_or x c) none
+    past_none (Some x) b c none = refl
 
 cause_of : (s : State) (place : ℕ) (run : Run) (st : Statement) (cause : Refusal) (stage : Stage) → first_refusal (lock_checks s place run st) ≡ None → MayRefuse stage st run.now.seen cause → IsCause s place st cause run
 cause_of s place run st cause stage free (inl memory) = inl memory
@@ -70,31 +70,32 @@ refuse_possible_only : (latest count room : ℕ) (newest : Database) (older : Li
     → IsPossible (only_state latest newest older wrote node (desk_of standing stage left)) (entries.Refused (Some place) l cause)
 refuse_possible_only latest count room newest older wrote node standing stage left place l cause facts on =
     desk_is latest newest older wrote node standing stage left place l (λ desk. IsRefusal (only_state latest newest older wrote node (desk_of standing stage left)) place desk cause)
-      (MayRefuseAt cause (desk_of standing stage left)) on
-      (λ st h. as_cause latest newest older wrote node standing stage left place cause st on.first facts.by_then facts.stands h)
+    (MayRefuseAt cause (desk_of standing stage left)) on
+    (λ st h. as_cause latest newest older wrote node standing stage left place cause st on.first facts.by_then facts.stands h)
   where
-  running_cause : (latest : ℕ) (newest : Database) (older : List Database) (wrote : List Written) (node : NodeState) (desk : Desk) (standing : Standing) (stage : Stage) (left : List Line) (place : ℕ) (cause : Refusal) (st : Statement)
-      → place ≡ 0 → AllByRecursion (IsWrittenBy latest) wrote → IsStanding standing stage latest newest left → IsRunning standing (λ run. MayRefuse stage st run.now.seen cause)
-      → IsRunning standing (IsCause (only_state latest newest older wrote node desk) place st cause)
-  running_cause latest newest older wrote node desk idle stage left place cause st first by_then stands h = h
-  running_cause latest newest older wrote node desk lost stage left place cause st first by_then stands h = h
-  running_cause latest newest older wrote node desk (running run) stage left place cause st first by_then stands h =
-      let free : first_refusal (lock_checks (only_state latest newest older wrote node desk) place run st) ≡ None =
-            subst (λ (p : ℕ). first_refusal (lock_checks (only_state latest newest older wrote node desk) p run st) ≡ None) (sym first)
-              (lock_checks-one latest newest older wrote node desk run st by_then stands.0) in
-      cause_of (only_state latest newest older wrote node desk) place run st cause stage free h
-  as_cause : (latest : ℕ) (newest : Database) (older : List Database) (wrote : List Written) (node : NodeState) (standing : Standing) (stage : Stage) (left : List Line) (place : ℕ) (cause : Refusal) (st : Statement)
-      → place ≡ 0 → AllByRecursion (IsWrittenBy latest) wrote → IsStanding standing stage latest newest left → MayRefuseAt cause (desk_of standing stage left) st
-      → IsRefusal (only_state latest newest older wrote node (desk_of standing stage left)) place (desk_of standing stage left) cause st
-  as_cause latest newest older wrote node standing stage left place cause st first by_then stands (inl memory) = inl memory
-  as_cause latest newest older wrote node standing stage left place cause st first by_then stands (inr h) =
-      inr (h.0, running_cause latest newest older wrote node (desk_of standing stage left) standing stage left place cause st first by_then stands h.1)
+    running_cause : (latest : ℕ) (newest : Database) (older : List Database) (wrote : List Written) (node : NodeState) (desk : Desk) (standing : Standing) (stage : Stage) (left : List Line) (place : ℕ) (cause : Refusal) (st : Statement)
+        → place ≡ 0 → AllByRecursion (IsWrittenBy latest) wrote → IsStanding standing stage latest newest left → IsRunning standing (λ run. MayRefuse stage st run.now.seen cause)
+        → IsRunning standing (IsCause (only_state latest newest older wrote node desk) place st cause)
+    running_cause latest newest older wrote node desk idle stage left place cause st first by_then stands h = h
+    running_cause latest newest older wrote node desk lost stage left place cause st first by_then stands h = h
+    running_cause latest newest older wrote node desk (running run) stage left place cause st first by_then stands h =
+        let free : first_refusal (lock_checks (only_state latest newest older wrote node desk) place run st) ≡ None =
+        subst (λ (p : ℕ). first_refusal (lock_checks (only_state latest newest older wrote node desk) p run st) ≡ None) (sym first)
+        (lock_checks-one latest newest older wrote node desk run st by_then stands.0) in
+        cause_of (only_state latest newest older wrote node desk) place run st cause stage free h
+
+    as_cause : (latest : ℕ) (newest : Database) (older : List Database) (wrote : List Written) (node : NodeState) (standing : Standing) (stage : Stage) (left : List Line) (place : ℕ) (cause : Refusal) (st : Statement)
+        → place ≡ 0 → AllByRecursion (IsWrittenBy latest) wrote → IsStanding standing stage latest newest left → MayRefuseAt cause (desk_of standing stage left) st
+        → IsRefusal (only_state latest newest older wrote node (desk_of standing stage left)) place (desk_of standing stage left) cause st
+    as_cause latest newest older wrote node standing stage left place cause st first by_then stands (inl memory) = inl memory
+    as_cause latest newest older wrote node standing stage left place cause st first by_then stands (inr h) =
+        inr (h.0, running_cause latest newest older wrote node (desk_of standing stage left) standing stage left place cause st first by_then stands h.1)
 
 pub refuse_possible : (s : State) (latest count room place l : ℕ) (cause : Refusal) (seen : Database) → IsSound s latest count room seen → CanRefuseLine s place l cause → IsPossible s (entries.Refused (Some place) l cause)
 refuse_possible s latest count room place l cause seen sound can =
     through s (shape_of sound) sound.shape (λ (s : State). CanRefuseLine s place l cause) (λ (s : State). IsPossible s (entries.Refused (Some place) l cause)) can
-      (λ here. refuse_possible_only latest count room sound.newest sound.older sound.wrote sound.node sound.standing sound.stage sound.left place l cause (facts_of s latest count room seen sound)
-        (on_desk latest sound.newest sound.older sound.wrote sound.node sound.standing sound.stage sound.left place l (MayRefuseAt cause) here))
+    (λ here. refuse_possible_only latest count room sound.newest sound.older sound.wrote sound.node sound.standing sound.stage sound.left place l cause (facts_of s latest count room seen sound)
+    (on_desk latest sound.newest sound.older sound.wrote sound.node sound.standing sound.stage sound.left place l (MayRefuseAt cause) here))
 
 -- a line that is refused has changed nothing of what its session sees
 refused_sees : (standing : Standing) (stage : Stage) (latest : ℕ) (newest : Database) (left : List Line) (cause : Refusal) (st : Statement) → IsStanding standing stage latest newest left → MayRefuseAt cause (desk_of standing stage left) st
@@ -113,7 +114,13 @@ refuse_only : (latest count room room' : ℕ) (newest : Database) (older : List 
 refuse_only latest count room room' newest older wrote node standing stage left place l cause facts more on =
     let own = MayRefuseAt cause (desk_of standing stage left) in
     record {
-      newest = newest; older = older; wrote = wrote; node = node; standing = idle; stage = fresh; left = drop 1 left;
+      newest = newest;
+      older = older;
+      wrote = wrote;
+      node = node;
+      standing = idle;
+      stage = fresh;
+      left = drop 1 left;
       shape = rw on.first refl;
       coordinator = facts.coordinator;
       by_then = facts.by_then;
@@ -128,9 +135,9 @@ pub refuse_sound : (s : State) (latest count room room' place l : ℕ) (cause : 
     → IsSound (change s (entries.Refused (Some place) l cause)) latest (count + 1) room' seen
 refuse_sound s latest count room room' place l cause seen sound can more =
     through s (shape_of sound) sound.shape (λ (s : State). CanRefuseLine s place l cause) (λ (s : State). IsSound (change s (entries.Refused (Some place) l cause)) latest (count + 1) room' seen) can
-      (λ here. subst (λ (db : Database). IsSound (change (shape_of sound) (entries.Refused (Some place) l cause)) latest (count + 1) room' db) (sym sound.sees)
-        (refuse_only latest count room room' sound.newest sound.older sound.wrote sound.node sound.standing sound.stage sound.left place l cause (facts_of s latest count room seen sound) more
-          (on_desk latest sound.newest sound.older sound.wrote sound.node sound.standing sound.stage sound.left place l (MayRefuseAt cause) here)))
+    (λ here. subst (λ (db : Database). IsSound (change (shape_of sound) (entries.Refused (Some place) l cause)) latest (count + 1) room' db) (sym sound.sees)
+    (refuse_only latest count room room' sound.newest sound.older sound.wrote sound.node sound.standing sound.stage sound.left place l cause (facts_of s latest count room seen sound) more
+    (on_desk latest sound.newest sound.older sound.wrote sound.node sound.standing sound.stage sound.left place l (MayRefuseAt cause) here)))
 
 -- COMMIT
 
@@ -152,8 +159,13 @@ commit_only latest count room room' newest older wrote node (running run) stage 
     let own = AsksCommit latest c (desk_of (running run) stage left) in
     let sees : Sees done run.now newest left = subst (λ (g : Stage). Sees g run.now newest left) on.holds.0 facts.stands.1 in
     record {
-      newest = committed run.now newest; older = older ++ newest ∷ []; wrote = map (written_at (latest + 1)) (run.now.held ++ run.now.created) ++ wrote;
-      node = moved_to (latest + 1) node; standing = idle; stage = fresh; left = drop 1 left;
+      newest = committed run.now newest;
+      older = older ++ newest ∷ [];
+      wrote = map (written_at (latest + 1)) (run.now.held ++ run.now.created) ++ wrote;
+      node = moved_to (latest + 1) node;
+      standing = idle;
+      stage = fresh;
+      left = drop 1 left;
       shape = rw on.first refl;
       coordinator = facts.coordinator;
       by_then = written_by_then latest (run.now.held ++ run.now.created) wrote facts.by_then;
@@ -168,9 +180,9 @@ pub commit_sound : (s : State) (latest count room room' place l c : ℕ) (seen :
     → IsSound (change s (entries.Commit place l c)) (latest + 1) (count + 1) room' seen
 commit_sound s latest count room room' place l c seen sound possible more =
     through s (shape_of sound) sound.shape (λ (s : State). IsPossible s (entries.Commit place l c)) (λ (s : State). IsSound (change s (entries.Commit place l c)) (latest + 1) (count + 1) room' seen) possible
-      (λ here. subst (λ (db : Database). IsSound (change (shape_of sound) (entries.Commit place l c)) (latest + 1) (count + 1) room' db) (sym sound.sees)
-        (commit_only latest count room room' sound.newest sound.older sound.wrote sound.node sound.standing sound.stage sound.left place l c (facts_of s latest count room seen sound) more
-          (on_desk latest sound.newest sound.older sound.wrote sound.node sound.standing sound.stage sound.left place l (AsksCommit latest c) here)))
+    (λ here. subst (λ (db : Database). IsSound (change (shape_of sound) (entries.Commit place l c)) (latest + 1) (count + 1) room' db) (sym sound.sees)
+    (commit_only latest count room room' sound.newest sound.older sound.wrote sound.node sound.standing sound.stage sound.left place l c (facts_of s latest count room seen sound) more
+    (on_desk latest sound.newest sound.older sound.wrote sound.node sound.standing sound.stage sound.left place l (AsksCommit latest c) here)))
 
 -- END
 
@@ -186,7 +198,13 @@ end_only latest count room room' newest older wrote node (running run) stage lef
     let own = AsksEnd (desk_of (running run) stage left) in
     let sees : Sees done run.now newest left = subst (λ (g : Stage). Sees g run.now newest left) on.holds.0 facts.stands.1 in
     record {
-      newest = newest; older = older; wrote = wrote; node = node; standing = idle; stage = fresh; left = drop 1 left;
+      newest = newest;
+      older = older;
+      wrote = wrote;
+      node = node;
+      standing = idle;
+      stage = fresh;
+      left = drop 1 left;
       shape = rw on.first refl;
       coordinator = facts.coordinator;
       by_then = facts.by_then;
@@ -201,6 +219,6 @@ pub end_sound : (s : State) (latest count room room' place l : ℕ) (seen : Data
     → IsSound (change s (entries.End place l)) latest (count + 1) room' seen
 end_sound s latest count room room' place l seen sound possible more =
     through s (shape_of sound) sound.shape (λ (s : State). IsPossible s (entries.End place l)) (λ (s : State). IsSound (change s (entries.End place l)) latest (count + 1) room' seen) possible
-      (λ here. subst (λ (db : Database). IsSound (change (shape_of sound) (entries.End place l)) latest (count + 1) room' db) (sym sound.sees)
-        (end_only latest count room room' sound.newest sound.older sound.wrote sound.node sound.standing sound.stage sound.left place l (facts_of s latest count room seen sound) more
-          (on_desk latest sound.newest sound.older sound.wrote sound.node sound.standing sound.stage sound.left place l AsksEnd here)))
+    (λ here. subst (λ (db : Database). IsSound (change (shape_of sound) (entries.End place l)) latest (count + 1) room' db) (sym sound.sees)
+    (end_only latest count room room' sound.newest sound.older sound.wrote sound.node sound.standing sound.stage sound.left place l (facts_of s latest count room seen sound) more
+    (on_desk latest sound.newest sound.older sound.wrote sound.node sound.standing sound.stage sound.left place l AsksEnd here)))

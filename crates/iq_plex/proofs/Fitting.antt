@@ -74,9 +74,9 @@ fields_fit row field (column ∷ columns) (value ∷ fields) h same (suc c) lt =
 row_fits : (row : ℕ) (columns : List Column) (fields : List Value) → bad_row row columns fields ≡ None → IsRowOf columns fields
 row_fits row columns fields h = by_count row columns fields (nat_eq (length fields) (length columns)) refl h
   where
-  by_count : (row : ℕ) (columns : List Column) (fields : List Value) (b : Bool) → nat_eq (length fields) (length columns) ≡ b → cond b (first_bad_field row 1 columns fields) (Some (refusals.BadRow row 0 causes.Count)) ≡ None → IsRowOf columns fields
-  by_count row columns fields true is h = let same : length fields ≡ length columns = grind (arith, nat_tests) in record { shape = same; kinds = fields_fit row 1 columns fields h same }
-  by_count row columns fields false is h = cc
+    by_count : (row : ℕ) (columns : List Column) (fields : List Value) (b : Bool) → nat_eq (length fields) (length columns) ≡ b → cond b (first_bad_field row 1 columns fields) (Some (refusals.BadRow row 0 causes.Count)) ≡ None → IsRowOf columns fields
+    by_count row columns fields true is h = let same : length fields ≡ length columns = grind (arith, nat_tests) in record { shape = same; kinds = fields_fit row 1 columns fields h same }
+    by_count row columns fields false is h = cc
 
 pub rows_fit : (row : ℕ) (columns : List Column) (rows : List (List Value)) → first_bad_row row columns rows ≡ None → AreRowsOf columns rows
 rows_fit row columns [] h k lt = absurd (omega arith)

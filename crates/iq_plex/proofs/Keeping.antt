@@ -42,7 +42,7 @@ kept_next script old new tables tables' latest latest' seen e kept possible push
   seen = seen;
   legal = subst (IsLegal (start script [])) (sym pushed.one_more) (IsLegal-snoc (start script []) old.entries e kept.legal possible);
   sound = subst (λ (es : List Entry). IsSound (left_by script es) latest' (length es) new.room seen) (sym pushed.one_more)
-    (subst (λ (s : State). IsSound s latest' (length (old.entries ++ e ∷ [])) new.room seen) (sym (replay-snoc (start script []) old.entries e))
+      (subst (λ (s : State). IsSound s latest' (length (old.entries ++ e ∷ [])) new.room seen) (sym (replay-snoc (start script []) old.entries e))
       (subst (λ (n : ℕ). IsSound (change (left_by script old.entries) e) latest' n new.room seen) (sym (length-append old.entries (e ∷ []))) sound));
   tables_stand = stand;
   fits = pushed.fits;
@@ -71,42 +71,42 @@ begin_possible_only : (latest : ℕ) (newest : Database) (older : List Database)
     → node.kind ≡ Coordinator → OnDesk place l left (AsksBegin (desk_of standing stage left)) → IsPossible (only_state latest newest older wrote node (desk_of standing stage left)) (entries.Begin place l latest)
 begin_possible_only latest newest older wrote node standing stage left place l is_home on =
     desk_is latest newest older wrote node standing stage left place l (CanBegin (only_state latest newest older wrote node (desk_of standing stage left)) latest) (AsksBegin (desk_of standing stage left)) on
-      (λ st h. record { tables = h.0; stage = h.1; none = h.2; snapshot = sym (position_of-only latest newest older wrote node (desk_of standing stage left) is_home) })
+    (λ st h. record { tables = h.0; stage = h.1; none = h.2; snapshot = sym (position_of-only latest newest older wrote node (desk_of standing stage left) is_home) })
 
 -- where the line under way may begin, it begins at the latest commit
 pub begin_possible : (s : State) (latest count room place l : ℕ) (seen : Database) → IsSound s latest count room seen → CanBeginLine s place l → IsPossible s (entries.Begin place l latest)
 begin_possible s latest count room place l seen sound can =
     through s (shape_of sound) sound.shape (λ (s : State). CanBeginLine s place l) (λ (s : State). IsPossible s (entries.Begin place l latest)) can
-      (λ here. begin_possible_only latest sound.newest sound.older sound.wrote sound.node sound.standing sound.stage sound.left place l sound.coordinator
-        (on_desk latest sound.newest sound.older sound.wrote sound.node sound.standing sound.stage sound.left place l AsksBegin here))
+    (λ here. begin_possible_only latest sound.newest sound.older sound.wrote sound.node sound.standing sound.stage sound.left place l sound.coordinator
+    (on_desk latest sound.newest sound.older sound.wrote sound.node sound.standing sound.stage sound.left place l AsksBegin here))
 
 pub kept_begin : (script : Script) (old new : HistoryState) (tables : List Stored) (latest s l : ℕ) → IsKept script old tables latest
     → CanBeginLine (left_by script old.entries) s l → IsPushed old (entries.Begin s l latest) new → IsKept script new tables latest
 kept_begin script old new tables latest s l kept can pushed =
     let here = begin_possible (left_by script old.entries) latest (length old.entries) old.room s l kept.seen kept.sound can in
     kept_next script old new tables tables latest latest kept.seen (entries.Begin s l latest) kept here pushed
-      (begin_sound (left_by script old.entries) latest (length old.entries) old.room new.room s l latest kept.seen kept.sound here pushed.room_used) kept.tables_stand
+    (begin_sound (left_by script old.entries) latest (length old.entries) old.room new.room s l latest kept.seen kept.sound here pushed.room_used) kept.tables_stand
 
 pub kept_lock : (script : Script) (old new : HistoryState) (tables : List Stored) (latest s l : ℕ) (names : List Name) → IsKept script old tables latest
     → CanLockLine (left_by script old.entries) s l names → IsPushed old (entries.Lock s l names) new → IsKept script new tables latest
 kept_lock script old new tables latest s l names kept can pushed =
     kept_next script old new tables tables latest latest kept.seen (entries.Lock s l names) kept
-      (lock_possible (left_by script old.entries) latest (length old.entries) old.room s l names kept.seen kept.sound can) pushed
-      (lock_sound (left_by script old.entries) latest (length old.entries) old.room new.room s l names kept.seen kept.sound can pushed.room_used) kept.tables_stand
+    (lock_possible (left_by script old.entries) latest (length old.entries) old.room s l names kept.seen kept.sound can) pushed
+    (lock_sound (left_by script old.entries) latest (length old.entries) old.room new.room s l names kept.seen kept.sound can pushed.room_used) kept.tables_stand
 
 pub kept_done : (script : Script) (old new : HistoryState) (tables tables' : List Stored) (latest s l : ℕ) (st : Statement) (kept : IsKept script old tables latest)
     → CanTakeLine (left_by script old.entries) s l st → IsPushed old (entries.Done s l) new → StandFor tables' (tables_after st kept.seen) → IsKept script new tables' latest
 kept_done script old new tables tables' latest s l st kept can pushed stand =
     kept_next script old new tables tables' latest latest (tables_after st kept.seen) (entries.Done s l) kept
-      (done_possible (left_by script old.entries) s l st can) pushed
-      (done_sound (left_by script old.entries) latest (length old.entries) old.room new.room s l st kept.seen kept.sound can pushed.room_used) stand
+    (done_possible (left_by script old.entries) s l st can) pushed
+    (done_sound (left_by script old.entries) latest (length old.entries) old.room new.room s l st kept.seen kept.sound can pushed.room_used) stand
 
 pub kept_refuse : (script : Script) (old new : HistoryState) (tables : List Stored) (latest s l : ℕ) (cause : Refusal) → IsKept script old tables latest
     → CanRefuseLine (left_by script old.entries) s l cause → IsPushed old (entries.Refused (Some s) l cause) new → IsKept script new tables latest
 kept_refuse script old new tables latest s l cause kept can pushed =
     kept_next script old new tables tables latest latest kept.seen (entries.Refused (Some s) l cause) kept
-      (refuse_possible (left_by script old.entries) latest (length old.entries) old.room s l cause kept.seen kept.sound can) pushed
-      (refuse_sound (left_by script old.entries) latest (length old.entries) old.room new.room s l cause kept.seen kept.sound can pushed.room_used) kept.tables_stand
+    (refuse_possible (left_by script old.entries) latest (length old.entries) old.room s l cause kept.seen kept.sound can) pushed
+    (refuse_sound (left_by script old.entries) latest (length old.entries) old.room new.room s l cause kept.seen kept.sound can pushed.room_used) kept.tables_stand
 
 -- the entry of a commit, one past the latest
 pub commit_at : (script : Script) (old : HistoryState) (tables : List Stored) (latest s l : ℕ) → IsKept script old tables latest
@@ -118,13 +118,13 @@ pub kept_commit : (script : Script) (old new : HistoryState) (tables : List Stor
 kept_commit script old new tables latest s l kept possible pushed =
     let here : IsPossible (left_by script old.entries) (entries.Commit s l (latest + 1)) = subst (IsPossible (left_by script old.entries)) (sym (commit_at script old tables latest s l kept)) possible in
     kept_next script old new tables tables latest (latest + 1) kept.seen (entries.Commit s l (latest + 1)) kept here pushed
-      (commit_sound (left_by script old.entries) latest (length old.entries) old.room new.room s l (latest + 1) kept.seen kept.sound here pushed.room_used) kept.tables_stand
+    (commit_sound (left_by script old.entries) latest (length old.entries) old.room new.room s l (latest + 1) kept.seen kept.sound here pushed.room_used) kept.tables_stand
 
 pub kept_end : (script : Script) (old new : HistoryState) (tables : List Stored) (latest s l : ℕ) → IsKept script old tables latest
     → IsPossible (left_by script old.entries) (entries.End s l) → IsPushed old (entries.End s l) new → IsKept script new tables latest
 kept_end script old new tables latest s l kept possible pushed =
     kept_next script old new tables tables latest latest kept.seen (entries.End s l) kept possible pushed
-      (end_sound (left_by script old.entries) latest (length old.entries) old.room new.room s l kept.seen kept.sound possible pushed.room_used) kept.tables_stand
+    (end_sound (left_by script old.entries) latest (length old.entries) old.room new.room s l kept.seen kept.sound possible pushed.room_used) kept.tables_stand
 
 -- the number of the next commit fits
 pub commit_fits : (script : Script) (old : HistoryState) (tables : List Stored) (latest : ℕ) → IsKept script old tables latest → latest + 1 < 2 ^ 64
@@ -134,7 +134,7 @@ commit_fits script old tables latest kept = let few = kept.sound.few in let fits
 pub first_place : (s : State) (latest count room place l : ℕ) (seen : Database) (P : Desk → Statement → Type 0) → IsSound s latest count room seen → DeskIs s place l P → place ≡ 0
 first_place s latest count room place l seen P sound h =
     through s (shape_of sound) sound.shape (λ (s : State). DeskIs s place l P) (λ (s : State). place ≡ 0) h
-      (λ here. (on_desk latest sound.newest sound.older sound.wrote sound.node sound.standing sound.stage sound.left place l P here).first)
+    (λ here. (on_desk latest sound.newest sound.older sound.wrote sound.node sound.standing sound.stage sound.left place l P here).first)
 
 -- what the running transaction sees is what the state's session sees
 pub seen_at : (s : State) (latest count room : ℕ) (seen : Database) (run : Run) (stage : Stage) (left : List Line) → IsSound s latest count room seen → s.desks ≡ desk_of (running run) stage left ∷ [] → seen ≡ run.now.seen
@@ -152,16 +152,20 @@ take_only latest newest older wrote node idle stage left place l st granted on =
 take_only latest newest older wrote node lost stage left place l st granted on = absurd on.holds.2
 take_only latest newest older wrote node (running run) stage left place l st granted on =
     desk_is latest newest older wrote node (running run) stage left place l (AsksTake st) (AsksHeld st (desk_of (running run) stage left)) on
-      (λ statement h. (h.0, h.1, record {
+    (λ statement h. (
+      h.0,
+      h.1,
+      record {
         held = h.2;
         granted = subst (λ (x : Statement). first_refusal (statement_checks x run.now.seen ++ room_checks x run.now.seen) ≡ None) (sym h.0) granted;
-      }))
+      },
+    ))
 
 pub take_of_holds : (s : State) (latest count room place l : ℕ) (st : Statement) (seen : Database) → IsSound s latest count room seen → HoldsLine s place l st → IsGranted st seen → CanTakeLine s place l st
 take_of_holds s latest count room place l st seen sound holds granted =
     through s (shape_of sound) sound.shape (λ (s : State). HoldsLine s place l st) (λ (s : State). CanTakeLine s place l st) holds
-      (λ here. take_only latest sound.newest sound.older sound.wrote sound.node sound.standing sound.stage sound.left place l st (subst (IsGranted st) sound.sees granted)
-        (on_desk latest sound.newest sound.older sound.wrote sound.node sound.standing sound.stage sound.left place l (AsksHeld st) here))
+    (λ here. take_only latest sound.newest sound.older sound.wrote sound.node sound.standing sound.stage sound.left place l st (subst (IsGranted st) sound.sees granted)
+    (on_desk latest sound.newest sound.older sound.wrote sound.node sound.standing sound.stage sound.left place l (AsksHeld st) here))
 
 -- a fact of all tables that are stood for is one of what the running transaction sees
 pub of_seen : (script : Script) (history : HistoryState) (tables : List Stored) (latest : ℕ) (P : Database → Type 0) → IsKept script history tables latest
@@ -173,7 +177,7 @@ pub kept_write : (script : Script) (old new : HistoryState) (tables tables' : Li
     → HoldsLine (left_by script old.entries) s l st → IsPushed old (entries.Done s l) new → IsGranted st kept.seen → StandFor tables' (tables_after st kept.seen) → IsKept script new tables' latest
 kept_write script old new tables tables' latest s l st kept holds pushed granted stand =
     kept_done script old new tables tables' latest s l st kept
-      (take_of_holds (left_by script old.entries) latest (length old.entries) old.room s l st kept.seen kept.sound holds granted) pushed stand
+    (take_of_holds (left_by script old.entries) latest (length old.entries) old.room s l st kept.seen kept.sound holds granted) pushed stand
 
 -- the session that a refused line names is the one there is
 pub session_placed : (script : Script) (history : HistoryState) (tables : List Stored) (latest place l : ℕ) (P : Desk → Statement → Type 0) → IsKept script history tables latest → DeskIs (left_by script history.entries) place l P

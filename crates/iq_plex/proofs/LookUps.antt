@@ -37,9 +37,9 @@ pub past_place : (n i : ℕ) (name : Name) (ss : List Stored) → place_from n n
 past_place n i name [] h = cc
 past_place n i name (s ∷ ss) h = either n i name ss (same_name s.table.name name) h (past_place (n + 1) i name ss)
   where
-  either : (n i : ℕ) (name : Name) (ss : List Stored) (b : Bool) → cond b (Some n) (place_from (n + 1) name ss) ≡ Some i → (place_from (n + 1) name ss ≡ Some i → n + 1 ≤ i) → n ≤ i
-  either n i name ss true h further = let same : n ≡ i = cc in omega arith
-  either n i name ss false h further = let past = further h in omega arith
+    either : (n i : ℕ) (name : Name) (ss : List Stored) (b : Bool) → cond b (Some n) (place_from (n + 1) name ss) ≡ Some i → (place_from (n + 1) name ss ≡ Some i → n + 1 ≤ i) → n ≤ i
+    either n i name ss true h further = let same : n ≡ i = cc in omega arith
+    either n i name ss false h further = let past = further h in omega arith
 
 -- no stored table of the name, no plain one
 pub none_found : (n : ℕ) (name : Name) (ss : List Stored) (db : Database) → place_from n name ss ≡ None → StandFor ss db → table_of name db ≡ None
@@ -48,12 +48,12 @@ none_found n name [] (t ∷ ts) h stand = absurd stand
 none_found n name (s ∷ ss) [] h stand = absurd stand
 none_found n name (s ∷ ss) (t ∷ ts) h stand = either n name s ss t ts (same_name s.table.name name) refl h stand (none_found (n + 1) name ss ts)
   where
-  either : (n : ℕ) (name : Name) (s : Stored) (ss : List Stored) (t : Table) (ts : Database) (b : Bool) → same_name s.table.name name ≡ b → cond (same_name s.table.name name) (Some n) (place_from (n + 1) name ss) ≡ None → StandFor (s ∷ ss) (t ∷ ts)
-      → (place_from (n + 1) name ss ≡ None → StandFor ss ts → table_of name ts ≡ None) → table_of name (t ∷ ts) ≡ None
-  either n name s ss t ts true is h stand further = let clash : Some n ≡ None = sym (rw is refl) ∙ h in cc
-  either n name s ss t ts false is h stand further =
-      let own : same_name t.name name ≡ false = ap (λ (m : Name). same_name m name) (sym stand.0.name_is) ∙ is in
-      rw own (further (sym (rw is refl) ∙ h) stand.1)
+    either : (n : ℕ) (name : Name) (s : Stored) (ss : List Stored) (t : Table) (ts : Database) (b : Bool) → same_name s.table.name name ≡ b → cond (same_name s.table.name name) (Some n) (place_from (n + 1) name ss) ≡ None → StandFor (s ∷ ss) (t ∷ ts)
+        → (place_from (n + 1) name ss ≡ None → StandFor ss ts → table_of name ts ≡ None) → table_of name (t ∷ ts) ≡ None
+    either n name s ss t ts true is h stand further = let clash : Some n ≡ None = sym (rw is refl) ∙ h in cc
+    either n name s ss t ts false is h stand further =
+        let own : same_name t.name name ≡ false = ap (λ (m : Name). same_name m name) (sym stand.0.name_is) ∙ is in
+        rw own (further (sym (rw is refl) ∙ h) stand.1)
 
 -- the stored table of the name stands for the plain one
 pub found : (name : Name) (ss : List Stored) (db : Database) (i n : ℕ) → place_from n name ss ≡ Some (n + i) → StandFor ss db → Found ss name db i
@@ -62,25 +62,25 @@ found name [] (t ∷ ts) i n h stand = absurd stand
 found name (s ∷ ss) [] i n h stand = absurd stand
 found name (s ∷ ss) (t ∷ ts) zero n h stand = here name s ss t ts n (same_name s.table.name name) refl h stand
   where
-  here : (name : Name) (s : Stored) (ss : List Stored) (t : Table) (ts : Database) (n : ℕ) (b : Bool) → same_name s.table.name name ≡ b → cond (same_name s.table.name name) (Some n) (place_from (n + 1) name ss) ≡ Some (n + 0) → StandFor (s ∷ ss) (t ∷ ts) → Found (s ∷ ss) name (t ∷ ts) 0
-  here name s ss t ts n true is h stand =
-      let own : same_name t.name name ≡ true = ap (λ (m : Name). same_name m name) (sym stand.0.name_is) ∙ is in
-      record { stored = s; table = t; stored_is = refl; table_is = rw own refl; stands = stand.0 }
-  here name s ss t ts n false is h stand =
-      let past : n + 1 ≤ n + 0 = past_place (n + 1) (n + 0) name ss (sym (rw is refl) ∙ h) in absurd (omega arith)
+    here : (name : Name) (s : Stored) (ss : List Stored) (t : Table) (ts : Database) (n : ℕ) (b : Bool) → same_name s.table.name name ≡ b → cond (same_name s.table.name name) (Some n) (place_from (n + 1) name ss) ≡ Some (n + 0) → StandFor (s ∷ ss) (t ∷ ts) → Found (s ∷ ss) name (t ∷ ts) 0
+    here name s ss t ts n true is h stand =
+        let own : same_name t.name name ≡ true = ap (λ (m : Name). same_name m name) (sym stand.0.name_is) ∙ is in
+        record { stored = s; table = t; stored_is = refl; table_is = rw own refl; stands = stand.0 }
+    here name s ss t ts n false is h stand =
+        let past : n + 1 ≤ n + 0 = past_place (n + 1) (n + 0) name ss (sym (rw is refl) ∙ h) in absurd (omega arith)
 found name (s ∷ ss) (t ∷ ts) (suc i) n h stand = further name s ss t ts i n (same_name s.table.name name) refl h stand (found name ss ts i (n + 1))
   where
-  further : (name : Name) (s : Stored) (ss : List Stored) (t : Table) (ts : Database) (i n : ℕ) (b : Bool) → same_name s.table.name name ≡ b → cond (same_name s.table.name name) (Some n) (place_from (n + 1) name ss) ≡ Some (n + suc i) → StandFor (s ∷ ss) (t ∷ ts)
-      → (place_from (n + 1) name ss ≡ Some (n + 1 + i) → StandFor ss ts → Found ss name ts i) → Found (s ∷ ss) name (t ∷ ts) (suc i)
-  further name s ss t ts i n true is h stand more =
-      let same : Some n ≡ Some (n + suc i) = sym (rw is refl) ∙ h in
-      let num : n ≡ n + suc i = cc in absurd (omega arith)
-  further name s ss t ts i n false is h stand more =
-      let own : same_name t.name name ≡ false = ap (λ (m : Name). same_name m name) (sym stand.0.name_is) ∙ is in
-      let rest : place_from (n + 1) name ss ≡ Some (n + suc i) = sym (rw is refl) ∙ h in
-      let num : n + suc i ≡ n + 1 + i = omega arith in
-      let f = more (rest ∙ ap Some num) stand.1 in
-      record { stored = f.stored; table = f.table; stored_is = f.stored_is; table_is = (rw own f.table_is); stands = f.stands }
+    further : (name : Name) (s : Stored) (ss : List Stored) (t : Table) (ts : Database) (i n : ℕ) (b : Bool) → same_name s.table.name name ≡ b → cond (same_name s.table.name name) (Some n) (place_from (n + 1) name ss) ≡ Some (n + suc i) → StandFor (s ∷ ss) (t ∷ ts)
+        → (place_from (n + 1) name ss ≡ Some (n + 1 + i) → StandFor ss ts → Found ss name ts i) → Found (s ∷ ss) name (t ∷ ts) (suc i)
+    further name s ss t ts i n true is h stand more =
+        let same : Some n ≡ Some (n + suc i) = sym (rw is refl) ∙ h in
+        let num : n ≡ n + suc i = cc in absurd (omega arith)
+    further name s ss t ts i n false is h stand more =
+        let own : same_name t.name name ≡ false = ap (λ (m : Name). same_name m name) (sym stand.0.name_is) ∙ is in
+        let rest : place_from (n + 1) name ss ≡ Some (n + suc i) = sym (rw is refl) ∙ h in
+        let num : n + suc i ≡ n + 1 + i = omega arith in
+        let f = more (rest ∙ ap Some num) stand.1 in
+        record { stored = f.stored; table = f.table; stored_is = f.stored_is; table_is = (rw own f.table_is); stands = f.stands }
 
 -- a stored table in place of the one of its name stands in the plain ones so
 pub replaced-stand : (name : Name) (ss : List Stored) (db : Database) (i n : ℕ) (new : Stored) (t' : Table) → place_from n name ss ≡ Some (n + i) → StandFor ss db → t'.name ≡ name → StandsFor new t'
@@ -90,35 +90,35 @@ replaced-stand name [] (t ∷ ts) i n new t' h stand is stands = absurd stand
 replaced-stand name (s ∷ ss) [] i n new t' h stand is stands = absurd stand
 replaced-stand name (s ∷ ss) (t ∷ ts) zero n new t' h stand is stands = here name s ss t ts n new t' (same_name s.table.name name) refl h stand is stands
   where
-  here : (name : Name) (s : Stored) (ss : List Stored) (t : Table) (ts : Database) (n : ℕ) (new : Stored) (t' : Table) (b : Bool) → same_name s.table.name name ≡ b → cond (same_name s.table.name name) (Some n) (place_from (n + 1) name ss) ≡ Some (n + 0) → StandFor (s ∷ ss) (t ∷ ts)
-      → t'.name ≡ name → StandsFor new t' → StandFor (new ∷ ss) (replaced t' (t ∷ ts))
-  here name s ss t ts n new t' true at h stand is stands =
-      let own : same_name t.name t'.name ≡ true = ap (λ (m : Name). same_name m t'.name) (sym stand.0.name_is) ∙ ap (same_name s.table.name) is ∙ at in
-      rw own (stands, stand.1)
-  here name s ss t ts n new t' false at h stand is stands =
-      let past : n + 1 ≤ n + 0 = past_place (n + 1) (n + 0) name ss (sym (rw at refl) ∙ h) in absurd (omega arith)
+    here : (name : Name) (s : Stored) (ss : List Stored) (t : Table) (ts : Database) (n : ℕ) (new : Stored) (t' : Table) (b : Bool) → same_name s.table.name name ≡ b → cond (same_name s.table.name name) (Some n) (place_from (n + 1) name ss) ≡ Some (n + 0) → StandFor (s ∷ ss) (t ∷ ts)
+        → t'.name ≡ name → StandsFor new t' → StandFor (new ∷ ss) (replaced t' (t ∷ ts))
+    here name s ss t ts n new t' true at h stand is stands =
+        let own : same_name t.name t'.name ≡ true = ap (λ (m : Name). same_name m t'.name) (sym stand.0.name_is) ∙ ap (same_name s.table.name) is ∙ at in
+        rw own (stands, stand.1)
+    here name s ss t ts n new t' false at h stand is stands =
+        let past : n + 1 ≤ n + 0 = past_place (n + 1) (n + 0) name ss (sym (rw at refl) ∙ h) in absurd (omega arith)
 replaced-stand name (s ∷ ss) (t ∷ ts) (suc i) n new t' h stand is stands = further name s ss t ts i n new t' (same_name s.table.name name) refl h stand is stands (replaced-stand name ss ts i (n + 1) new t')
   where
-  further : (name : Name) (s : Stored) (ss : List Stored) (t : Table) (ts : Database) (i n : ℕ) (new : Stored) (t' : Table) (b : Bool) → same_name s.table.name name ≡ b → cond (same_name s.table.name name) (Some n) (place_from (n + 1) name ss) ≡ Some (n + suc i) → StandFor (s ∷ ss) (t ∷ ts)
-      → t'.name ≡ name → StandsFor new t' → (place_from (n + 1) name ss ≡ Some (n + 1 + i) → StandFor ss ts → t'.name ≡ name → StandsFor new t' → StandFor (set ss i new) (replaced t' ts))
-      → StandFor (s ∷ set ss i new) (replaced t' (t ∷ ts))
-  further name s ss t ts i n new t' true at h stand is stands more =
-      let same : Some n ≡ Some (n + suc i) = sym (rw at refl) ∙ h in
-      let num : n ≡ n + suc i = cc in absurd (omega arith)
-  further name s ss t ts i n new t' false at h stand is stands more =
-      let own : same_name t.name t'.name ≡ false = ap (λ (m : Name). same_name m t'.name) (sym stand.0.name_is) ∙ ap (same_name s.table.name) is ∙ at in
-      let rest : place_from (n + 1) name ss ≡ Some (n + suc i) = sym (rw at refl) ∙ h in
-      let num : n + suc i ≡ n + 1 + i = omega arith in
-      rw own (stand.0, more (rest ∙ ap Some num) stand.1 is stands)
+    further : (name : Name) (s : Stored) (ss : List Stored) (t : Table) (ts : Database) (i n : ℕ) (new : Stored) (t' : Table) (b : Bool) → same_name s.table.name name ≡ b → cond (same_name s.table.name name) (Some n) (place_from (n + 1) name ss) ≡ Some (n + suc i) → StandFor (s ∷ ss) (t ∷ ts)
+        → t'.name ≡ name → StandsFor new t' → (place_from (n + 1) name ss ≡ Some (n + 1 + i) → StandFor ss ts → t'.name ≡ name → StandsFor new t' → StandFor (set ss i new) (replaced t' ts))
+        → StandFor (s ∷ set ss i new) (replaced t' (t ∷ ts))
+    further name s ss t ts i n new t' true at h stand is stands more =
+        let same : Some n ≡ Some (n + suc i) = sym (rw at refl) ∙ h in
+        let num : n ≡ n + suc i = cc in absurd (omega arith)
+    further name s ss t ts i n new t' false at h stand is stands more =
+        let own : same_name t.name t'.name ≡ false = ap (λ (m : Name). same_name m t'.name) (sym stand.0.name_is) ∙ ap (same_name s.table.name) is ∙ at in
+        let rest : place_from (n + 1) name ss ≡ Some (n + suc i) = sym (rw at refl) ∙ h in
+        let num : n + suc i ≡ n + 1 + i = omega arith in
+        rw own (stand.0, more (rest ∙ ap Some num) stand.1 is stands)
 
 -- how many tables stand before, where places are counted from n on
 pub before-suc : (n : ℕ) (name : Name) (ss : List Stored) → before_from (n + 1) name ss ≡ before_from n name ss + 1
 before-suc n name [] = refl
 before-suc n name (s ∷ ss) = either n name ss (is_gt (slice_cmp nat_cmp name s.table.name)) (before-suc (n + 1) name ss)
   where
-  either : (n : ℕ) (name : Name) (ss : List Stored) (b : Bool) → before_from (n + 1 + 1) name ss ≡ before_from (n + 1) name ss + 1 → cond b (before_from (n + 1 + 1) name ss) (n + 1) ≡ cond b (before_from (n + 1) name ss) n + 1
-  either n name ss true h = h
-  either n name ss false h = refl
+    either : (n : ℕ) (name : Name) (ss : List Stored) (b : Bool) → before_from (n + 1 + 1) name ss ≡ before_from (n + 1) name ss + 1 → cond b (before_from (n + 1 + 1) name ss) (n + 1) ≡ cond b (before_from (n + 1) name ss) n + 1
+    either n name ss true h = h
+    either n name ss false h = refl
 
 -- a stored table that is put in before the first whose name isn't below its own stands in the plain ones so
 pub placed-stand : (ss : List Stored) (db : Database) (new : Stored) (t' : Table) → StandFor ss db → StandsFor new t' → StandFor (insert ss (before_from 0 t'.name ss) new) (placed t' db)
@@ -127,15 +127,15 @@ placed-stand [] (t ∷ ts) new t' stand stands = absurd stand
 placed-stand (s ∷ ss) [] new t' stand stands = absurd stand
 placed-stand (s ∷ ss) (t ∷ ts) new t' stand stands = either s ss t ts new t' (is_gt (slice_cmp nat_cmp t'.name s.table.name)) refl stand stands (placed-stand ss ts new t' stand.1 stands)
   where
-  either : (s : Stored) (ss : List Stored) (t : Table) (ts : Database) (new : Stored) (t' : Table) (b : Bool) → is_gt (slice_cmp nat_cmp t'.name s.table.name) ≡ b → StandFor (s ∷ ss) (t ∷ ts) → StandsFor new t'
-      → StandFor (insert ss (before_from 0 t'.name ss) new) (placed t' ts) → StandFor (insert (s ∷ ss) (before_from 0 t'.name (s ∷ ss)) new) (placed t' (t ∷ ts))
-  either s ss t ts new t' true at stand stands further =
-      let own : is_gt (slice_cmp nat_cmp t'.name t.name) ≡ true = ap (λ (m : Name). is_gt (slice_cmp nat_cmp t'.name m)) (sym stand.0.name_is) ∙ at in
-      let next : before_from 1 t'.name ss ≡ suc (before_from 0 t'.name ss) = before-suc 0 t'.name ss ∙ omega arith in
-      rw (at, own, next) (stand.0, further)
-  either s ss t ts new t' false at stand stands further =
-      let own : is_gt (slice_cmp nat_cmp t'.name t.name) ≡ false = ap (λ (m : Name). is_gt (slice_cmp nat_cmp t'.name m)) (sym stand.0.name_is) ∙ at in
-      rw (at, own) (stands, stand)
+    either : (s : Stored) (ss : List Stored) (t : Table) (ts : Database) (new : Stored) (t' : Table) (b : Bool) → is_gt (slice_cmp nat_cmp t'.name s.table.name) ≡ b → StandFor (s ∷ ss) (t ∷ ts) → StandsFor new t'
+        → StandFor (insert ss (before_from 0 t'.name ss) new) (placed t' ts) → StandFor (insert (s ∷ ss) (before_from 0 t'.name (s ∷ ss)) new) (placed t' (t ∷ ts))
+    either s ss t ts new t' true at stand stands further =
+        let own : is_gt (slice_cmp nat_cmp t'.name t.name) ≡ true = ap (λ (m : Name). is_gt (slice_cmp nat_cmp t'.name m)) (sym stand.0.name_is) ∙ at in
+        let next : before_from 1 t'.name ss ≡ suc (before_from 0 t'.name ss) = before-suc 0 t'.name ss ∙ omega arith in
+        rw (at, own, next) (stand.0, further)
+    either s ss t ts new t' false at stand stands further =
+        let own : is_gt (slice_cmp nat_cmp t'.name t.name) ≡ false = ap (λ (m : Name). is_gt (slice_cmp nat_cmp t'.name m)) (sym stand.0.name_is) ∙ at in
+        rw (at, own) (stands, stand)
 
 -- the first of a name stands for the plain one of that name
 pub finds-named : (name : Name) (ss : List Stored) (db : Database) → StandFor ss db → Finds (named name ss) (table_of name db)
@@ -146,11 +146,11 @@ finds-named name (s ∷ ss) (t ∷ ts) stand =
     let own : same_name t.name name ≡ same_name s.table.name name = ap (λ (m : Name). same_name m name) (sym stand.0.name_is) in
     either name s ss t ts (same_name s.table.name name) (same_name t.name name) own stand.0 (finds-named name ss ts stand.1)
   where
-  either : (name : Name) (s : Stored) (ss : List Stored) (t : Table) (ts : Database) (b d : Bool) → d ≡ b → StandsFor s t → Finds (named name ss) (table_of name ts) → Finds (cond b (Some s) (named name ss)) (cond d (Some t) (table_of name ts))
-  either name s ss t ts true true is here further = here
-  either name s ss t ts false false is here further = further
-  either name s ss t ts true false is here further = let clash : false ≡ true = is in cc
-  either name s ss t ts false true is here further = let clash : true ≡ false = is in cc
+    either : (name : Name) (s : Stored) (ss : List Stored) (t : Table) (ts : Database) (b d : Bool) → d ≡ b → StandsFor s t → Finds (named name ss) (table_of name ts) → Finds (cond b (Some s) (named name ss)) (cond d (Some t) (table_of name ts))
+    either name s ss t ts true true is here further = here
+    either name s ss t ts false false is here further = further
+    either name s ss t ts true false is here further = let clash : false ≡ true = is in cc
+    either name s ss t ts false true is here further = let clash : true ≡ false = is in cc
 
 -- CHECKS
 

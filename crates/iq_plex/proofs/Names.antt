@@ -27,12 +27,12 @@ reserved_catalog = refl
 pub not_catalog : (name : List ℕ) → is_reserved name ≡ false → same_name name catalog_name ≡ false
 not_catalog name free = decide (same_name name catalog_name) refl
   where
-  decide : (b : Bool) → same_name name catalog_name ≡ b → same_name name catalog_name ≡ false
-  decide false e = e
-  decide true e =
-      let same = same_name-true name catalog_name e in
-      let clash : true ≡ false = sym reserved_catalog ∙ ap is_reserved (sym same) ∙ free in
-      cc
+    decide : (b : Bool) → same_name name catalog_name ≡ b → same_name name catalog_name ≡ false
+    decide false e = e
+    decide true e =
+        let same = same_name-true name catalog_name e in
+        let clash : true ≡ false = sym reserved_catalog ∙ ap is_reserved (sym same) ∙ free in
+        cc
 
 -- a name that is held isn't locked again
 pub not_held-self : (name : List ℕ) → not_held (name ∷ []) (name ∷ []) ≡ []

@@ -56,14 +56,14 @@ first_bad_field_placed n row field [] fields = tt
 first_bad_field_placed n row field (column ∷ columns) [] = tt
 first_bad_field_placed n row field (column ∷ columns) (value ∷ fields) =
     either n (bad_field row field (field_cause column value)) (first_bad_field row (field + 1) columns fields)
-      (bad_field_placed n row field (field_cause column value)) (first_bad_field_placed n row (field + 1) columns fields)
+    (bad_field_placed n row field (field_cause column value)) (first_bad_field_placed n row (field + 1) columns fields)
 
 bad_row_placed : (n row : ℕ) (columns : List Column) (fields : List Value) → Unplaced n (bad_row row columns fields)
 bad_row_placed n row columns fields = by_count n row columns fields (nat_eq (length fields) (length columns))
   where
-  by_count : (n row : ℕ) (columns : List Column) (fields : List Value) (b : Bool) → Unplaced n (cond b (first_bad_field row 1 columns fields) (Some (refusals.BadRow row 0 causes.Count)))
-  by_count n row columns fields true = first_bad_field_placed n row 1 columns fields
-  by_count n row columns fields false = tt
+    by_count : (n row : ℕ) (columns : List Column) (fields : List Value) (b : Bool) → Unplaced n (cond b (first_bad_field row 1 columns fields) (Some (refusals.BadRow row 0 causes.Count)))
+    by_count n row columns fields true = first_bad_field_placed n row 1 columns fields
+    by_count n row columns fields false = tt
 
 first_bad_row_placed : (n row : ℕ) (columns : List Column) (rows : List (List Value)) → Unplaced n (first_bad_row row columns rows)
 first_bad_row_placed n row columns [] = tt
@@ -82,7 +82,7 @@ create_placed : (n : ℕ) (name : Name) (a b : Bool) (more : List Check) → Unp
     → Unplaced n (option_or (found_if a (refusals.TableExists name)) (option_or (found_if b refusals.CatalogFull) (first_refusal more)))
 create_placed n name a b more p =
     either n (found_if a (refusals.TableExists name)) (option_or (found_if b refusals.CatalogFull) (first_refusal more)) (by_test n a (refusals.TableExists name) tt)
-      (either n (found_if b refusals.CatalogFull) (first_refusal more) (by_test n b refusals.CatalogFull tt) p)
+    (either n (found_if b refusals.CatalogFull) (first_refusal more) (by_test n b refusals.CatalogFull tt) p)
 
 write_placed : (n : ℕ) (write : Write) (db : Database) (more : List Check) → Unplaced n (first_refusal more) → Unplaced n (first_refusal (write_checks write db ++ more))
 write_placed n (writes.CreateTable name schema) db more p = create_placed n name (is_some (table_of name db)) (nat_le most_tables (length db)) more p
@@ -142,7 +142,7 @@ pub cause_placed : (n : ℕ) (stage : Stage) (st : Statement) (db : Database) (c
 cause_placed n stage st db cause (inl memory) = subst (IsPlacedRefusal n) (sym memory) tt
 cause_placed n stage st db cause (inr (inl found)) =
     at_some n (first_refusal (statement_checks st db)) cause found
-      (subst (λ (cs : List Check). Unplaced n (first_refusal cs)) (append_nil (statement_checks st db)) (statement_placed n st db [] tt))
+    (subst (λ (cs : List Check). Unplaced n (first_refusal cs)) (append_nil (statement_checks st db)) (statement_placed n st db [] tt))
 cause_placed n fresh st db cause (inr (inr room)) = absurd room
 cause_placed n begun st db cause (inr (inr room)) = absurd room
 cause_placed n locked st db cause (inr (inr room)) =
@@ -153,19 +153,23 @@ cause_placed n done st db cause (inr (inr room)) = absurd room
 pub line_cause_placed : (n : ℕ) (s : State) (place l : ℕ) (cause : Refusal) → CanRefuseLine s place l cause → IsPlacedRefusal n cause
 line_cause_placed n s place l cause can = at_desk n (slice_get s.desks place) l cause can
   where
-  at_standing : (n : ℕ) (standing : Standing) (stage : Stage) (st : Statement) (cause : Refusal) → IsRunning standing (λ run. MayRefuse stage st run.now.seen cause) → IsPlacedRefusal n cause
-  at_standing n idle stage st cause h = absurd h
-  at_standing n lost stage st cause h = absurd h
-  at_standing n (running run) stage st cause h = cause_placed n stage st run.now.seen cause h
-  at_statement : (n : ℕ) (desk : Desk) (st : Statement) (cause : Refusal) → MayRefuseAt cause desk st → IsPlacedRefusal n cause
-  at_statement n desk st cause (inl memory) = subst (IsPlacedRefusal n) (sym memory.2) tt
-  at_statement n desk st cause (inr h) = at_standing n desk.standing desk.stage st cause h.1
-  at_deed : (n : ℕ) (desk : Desk) (d : Deed) (cause : Refusal) → DeedIs d (MayRefuseAt cause desk) → IsPlacedRefusal n cause
-  at_deed n desk (deeds.Statement st) cause h = at_statement n desk st cause h
-  at_deed n desk (deeds.Step step) cause h = absurd h
-  at_line : (n : ℕ) (desk : Desk) (lines : List Line) (l : ℕ) (cause : Refusal) → LineIs lines l (MayRefuseAt cause desk) → IsPlacedRefusal n cause
-  at_line n desk [] l cause h = absurd h
-  at_line n desk (line ∷ lines) l cause h = at_deed n desk line.deed cause h.1
-  at_desk : (n : ℕ) (desk : Option Desk) (l : ℕ) (cause : Refusal) → IsSomeAnd desk (λ desk. LineIs desk.left l (MayRefuseAt cause desk)) → IsPlacedRefusal n cause
-  at_desk n None l cause h = absurd h
-  at_desk n (Some desk) l cause h = at_line n desk desk.left l cause h
+    at_standing : (n : ℕ) (standing : Standing) (stage : Stage) (st : Statement) (cause : Refusal) → IsRunning standing (λ run. MayRefuse stage st run.now.seen cause) → IsPlacedRefusal n cause
+    at_standing n idle stage st cause h = absurd h
+    at_standing n lost stage st cause h = absurd h
+    at_standing n (running run) stage st cause h = cause_placed n stage st run.now.seen cause h
+
+    at_statement : (n : ℕ) (desk : Desk) (st : Statement) (cause : Refusal) → MayRefuseAt cause desk st → IsPlacedRefusal n cause
+    at_statement n desk st cause (inl memory) = subst (IsPlacedRefusal n) (sym memory.2) tt
+    at_statement n desk st cause (inr h) = at_standing n desk.standing desk.stage st cause h.1
+
+    at_deed : (n : ℕ) (desk : Desk) (d : Deed) (cause : Refusal) → DeedIs d (MayRefuseAt cause desk) → IsPlacedRefusal n cause
+    at_deed n desk (deeds.Statement st) cause h = at_statement n desk st cause h
+    at_deed n desk (deeds.Step step) cause h = absurd h
+
+    at_line : (n : ℕ) (desk : Desk) (lines : List Line) (l : ℕ) (cause : Refusal) → LineIs lines l (MayRefuseAt cause desk) → IsPlacedRefusal n cause
+    at_line n desk [] l cause h = absurd h
+    at_line n desk (line ∷ lines) l cause h = at_deed n desk line.deed cause h.1
+
+    at_desk : (n : ℕ) (desk : Option Desk) (l : ℕ) (cause : Refusal) → IsSomeAnd desk (λ desk. LineIs desk.left l (MayRefuseAt cause desk)) → IsPlacedRefusal n cause
+    at_desk n None l cause h = absurd h
+    at_desk n (Some desk) l cause h = at_line n desk desk.left l cause h

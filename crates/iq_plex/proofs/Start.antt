@@ -19,7 +19,13 @@ start_shape script opening runnable = rw (runnable.nodes, runnable.sessions, lin
 
 pub start_sound : (script : Script) (opening : Database) (room : ℕ) → IsRunnable script → 5 * length script.lines ≤ room → IsSound (start script opening) 0 0 room opening
 start_sound script opening room runnable has = record {
-  newest = opening; older = []; wrote = []; node = node_start the_node; standing = idle; stage = fresh; left = script.lines;
+  newest = opening;
+  older = [];
+  wrote = [];
+  node = node_start the_node;
+  standing = idle;
+  stage = fresh;
+  left = script.lines;
   shape = start_shape script opening runnable;
   coordinator = refl;
   by_then = tt;

@@ -103,7 +103,13 @@ begin_only latest count room room' newest older wrote node standing stage left p
     let at = on.holds.snapshot ∙ position_of-only latest newest older wrote node (desk_of standing stage left) facts.coordinator in
     let new_line : stage ≡ fresh = on.holds.stage in
     record {
-      newest = newest; older = older; wrote = wrote; node = node; standing = new_run latest newest; stage = begun; left = left;
+      newest = newest;
+      older = older;
+      wrote = wrote;
+      node = node;
+      standing = new_run latest newest;
+      stage = begun;
+      left = left;
       shape = begin_shape latest newest older wrote node standing stage left place l c on.first at;
       coordinator = facts.coordinator;
       by_then = facts.by_then;
@@ -121,7 +127,7 @@ pub begin_sound : (s : State) (latest count room room' place l c : ℕ) (seen : 
     → IsSound (change s (entries.Begin place l c)) latest (count + 1) room' seen
 begin_sound s latest count room room' place l c seen sound possible more =
     through s (shape_of sound) sound.shape (λ (s : State). IsPossible s (entries.Begin place l c)) (λ (s : State). IsSound (change s (entries.Begin place l c)) latest (count + 1) room' seen) possible
-      (λ here. let on = on_desk latest sound.newest sound.older sound.wrote sound.node sound.standing sound.stage sound.left place l (CanBegin (shape_of sound) c) here in
-        let same : seen ≡ sound.newest = sound.sees ∙ idle_sees sound.standing sound.newest on.holds.none in
-        subst (λ (db : Database). IsSound (change (shape_of sound) (entries.Begin place l c)) latest (count + 1) room' db) (sym same)
-          (begin_only latest count room room' sound.newest sound.older sound.wrote sound.node sound.standing sound.stage sound.left place l c (facts_of s latest count room seen sound) more on))
+    (λ here. let on = on_desk latest sound.newest sound.older sound.wrote sound.node sound.standing sound.stage sound.left place l (CanBegin (shape_of sound) c) here in
+    let same : seen ≡ sound.newest = sound.sees ∙ idle_sees sound.standing sound.newest on.holds.none in
+    subst (λ (db : Database). IsSound (change (shape_of sound) (entries.Begin place l c)) latest (count + 1) room' db) (sym same)
+    (begin_only latest count room room' sound.newest sound.older sound.wrote sound.node sound.standing sound.stage sound.left place l c (facts_of s latest count room seen sound) more on))

@@ -58,7 +58,7 @@ grants latest newest older wrote node desk place names run st first by_then at m
   names_are = may.names_are;
   some = may.some;
   granted = subst (λ (p : ℕ). first_refusal (checks_to_lock (only_state latest newest older wrote node desk) p run st) ≡ None) (sym first)
-    (first_refusal-append (statement_checks st run.now.seen) (lock_checks (only_state latest newest older wrote node desk) 0 run st)
+      (first_refusal-append (statement_checks st run.now.seen) (lock_checks (only_state latest newest older wrote node desk) 0 run st)
       ∙ ap (λ r. option_or r (first_refusal (lock_checks (only_state latest newest older wrote node desk) 0 run st))) may.granted
       ∙ lock_checks-one latest newest older wrote node desk run st by_then at);
 }
@@ -70,15 +70,15 @@ lock_possible_only latest count room newest older wrote node idle stage left pla
 lock_possible_only latest count room newest older wrote node lost stage left place l names facts on = absurd on.holds.1
 lock_possible_only latest count room newest older wrote node (running run) stage left place l names facts on =
     desk_is latest newest older wrote node (running run) stage left place l
-      (λ desk statement. (desk.stage ≡ begun) × IsRunning desk.standing (CanLock (only_state latest newest older wrote node (desk_of (running run) stage left)) place names statement))
-      (AsksLock names (desk_of (running run) stage left)) on
-      (λ st h. (h.0, grants latest newest older wrote node (desk_of (running run) stage left) place names run st on.first facts.by_then facts.stands.0 h.1))
+    (λ desk statement. (desk.stage ≡ begun) × IsRunning desk.standing (CanLock (only_state latest newest older wrote node (desk_of (running run) stage left)) place names statement))
+    (AsksLock names (desk_of (running run) stage left)) on
+    (λ st h. (h.0, grants latest newest older wrote node (desk_of (running run) stage left) place names run st on.first facts.by_then facts.stands.0 h.1))
 
 pub lock_possible : (s : State) (latest count room place l : ℕ) (names : List Name) (seen : Database) → IsSound s latest count room seen → CanLockLine s place l names → IsPossible s (entries.Lock place l names)
 lock_possible s latest count room place l names seen sound can =
     through s (shape_of sound) sound.shape (λ (s : State). CanLockLine s place l names) (λ (s : State). IsPossible s (entries.Lock place l names)) can
-      (λ here. lock_possible_only latest count room sound.newest sound.older sound.wrote sound.node sound.standing sound.stage sound.left place l names (facts_of s latest count room seen sound)
-        (on_desk latest sound.newest sound.older sound.wrote sound.node sound.standing sound.stage sound.left place l (AsksLock names) here))
+    (λ here. lock_possible_only latest count room sound.newest sound.older sound.wrote sound.node sound.standing sound.stage sound.left place l names (facts_of s latest count room seen sound)
+    (on_desk latest sound.newest sound.older sound.wrote sound.node sound.standing sound.stage sound.left place l (AsksLock names) here))
 
 -- a running transaction that holds more names
 abbrev pub holding : List Name → Run → Standing
@@ -94,13 +94,24 @@ lock_only latest count room room' newest older wrote node (running run) stage le
     let sees : Sees begun run.now newest left = subst (λ (g : Stage). Sees g run.now newest left) is_begun facts.stands.1 in
     let none_held : not_held run.now.held (locks on.statement) ≡ locks on.statement = ap (λ held. not_held held (locks on.statement)) sees.1 ∙ not_held-none (locks on.statement) in
     record {
-      newest = newest; older = older; wrote = wrote; node = node; standing = holding names run; stage = locked; left = left;
+      newest = newest;
+      older = older;
+      wrote = wrote;
+      node = node;
+      standing = holding names run;
+      stage = locked;
+      left = left;
       shape = rw on.first refl;
       coordinator = facts.coordinator;
       by_then = facts.by_then;
-      stands = (facts.stands.0, (sees.0,
-        ap (λ held. held ++ names) sees.1 ∙ on.holds.1.names_are ∙ none_held ∙ sym (line_locks-on place l left (AsksLock names (desk_of (running run) stage left)) on),
-        sees.2));
+      stands = (
+        facts.stands.0,
+        (
+          sees.0,
+          ap (λ held. held ++ names) sees.1 ∙ on.holds.1.names_are ∙ none_held ∙ sym (line_locks-on place l left (AsksLock names (desk_of (running run) stage left)) on),
+          sees.2,
+        ),
+      );
       sees = refl;
       built = facts.built;
       room_left = (let u : used stage ≡ 1 = ap used is_begun in let r = facts.room_left in omega arith);
@@ -111,17 +122,17 @@ pub lock_sound : (s : State) (latest count room room' place l : ℕ) (names : Li
     → IsSound (change s (entries.Lock place l names)) latest (count + 1) room' seen
 lock_sound s latest count room room' place l names seen sound can more =
     through s (shape_of sound) sound.shape (λ (s : State). CanLockLine s place l names) (λ (s : State). IsSound (change s (entries.Lock place l names)) latest (count + 1) room' seen) can
-      (λ here. subst (λ (db : Database). IsSound (change (shape_of sound) (entries.Lock place l names)) latest (count + 1) room' db) (sym sound.sees)
-        (lock_only latest count room room' sound.newest sound.older sound.wrote sound.node sound.standing sound.stage sound.left place l names (facts_of s latest count room seen sound) more
-          (on_desk latest sound.newest sound.older sound.wrote sound.node sound.standing sound.stage sound.left place l (AsksLock names) here)))
+    (λ here. subst (λ (db : Database). IsSound (change (shape_of sound) (entries.Lock place l names)) latest (count + 1) room' db) (sym sound.sees)
+    (lock_only latest count room room' sound.newest sound.older sound.wrote sound.node sound.standing sound.stage sound.left place l names (facts_of s latest count room seen sound) more
+    (on_desk latest sound.newest sound.older sound.wrote sound.node sound.standing sound.stage sound.left place l (AsksLock names) here)))
 
 -- DONE
 
 work_is : (work : Work) (newest : Database) (st : Statement) → work.seen ≡ newest → work.held ≡ locks st → work.created ≡ [] → work ≡ work_before newest st
 work_is work newest st seen held created =
     subst (λ (db : Database). work ≡ record { seen = db; held = locks st; created = [] }) seen
-      (subst (λ (names : List Name). work ≡ record { seen = work.seen; held = names; created = [] }) held
-        (subst (λ (names : List Name). work ≡ record { seen = work.seen; held = work.held; created = names }) created refl))
+    (subst (λ (names : List Name). work ≡ record { seen = work.seen; held = names; created = [] }) held
+    (subst (λ (names : List Name). work ≡ record { seen = work.seen; held = work.held; created = names }) created refl))
 
 -- before its statement takes effect a transaction holds just the statement's names, on the latest commit
 work_at : (stage : Stage) (run : Run) (newest : Database) (left : List Line) (st : Statement) → IsOpen stage → Sees stage run.now newest left → line_locks left ≡ locks st → CanTake st run → run.now ≡ work_before newest st
@@ -138,7 +149,7 @@ sees_after : (work : Work) (newest : Database) (left : List Line) (st : Statemen
 sees_after work newest left st built is granted =
     let at_newest : first_refusal (statement_checks st newest ++ room_checks st newest) ≡ None = subst (λ (w : Work). first_refusal (statement_checks st w.seen ++ room_checks st w.seen) ≡ None) is granted in
     subst (λ (w : Work). Sees done (takes_effect st w) newest left) (sym is)
-      (commits_effect st newest built at_newest, λ none. keeps_tables st newest built none)
+    (commits_effect st newest built at_newest, λ none. keeps_tables st newest built none)
 
 -- a running transaction whose line's statement took effect
 abbrev pub taken : List Line → Run → Standing
@@ -167,7 +178,13 @@ done_only latest count room room' newest older wrote node (running run) stage le
     let took = line_takes-on place l left own on run.now in
     let after = sees_after run.now newest left on.statement (built-on place l left own on facts.built) work on.holds.2.granted in
     record {
-      newest = newest; older = older; wrote = wrote; node = node; standing = taken left run; stage = done; left = left;
+      newest = newest;
+      older = older;
+      wrote = wrote;
+      node = node;
+      standing = taken left run;
+      stage = done;
+      left = left;
       shape = rw on.first refl;
       coordinator = facts.coordinator;
       by_then = facts.by_then;
@@ -182,20 +199,22 @@ pub done_sound : (s : State) (latest count room room' place l : ℕ) (st : State
     → IsSound (change s (entries.Done place l)) latest (count + 1) room' (tables_after st seen)
 done_sound s latest count room room' place l st seen sound can more =
     through s (shape_of sound) sound.shape (λ (s : State). CanTakeLine s place l st) (λ (s : State). IsSound (change s (entries.Done place l)) latest (count + 1) room' (tables_after st seen)) can
-      (λ here. subst (λ (db : Database). IsSound (change (shape_of sound) (entries.Done place l)) latest (count + 1) room' (tables_after st db)) (sym sound.sees)
-        (done_only latest count room room' sound.newest sound.older sound.wrote sound.node sound.standing sound.stage sound.left place l st (facts_of s latest count room seen sound) more
-          (on_desk latest sound.newest sound.older sound.wrote sound.node sound.standing sound.stage sound.left place l (AsksTake st) here)))
+    (λ here. subst (λ (db : Database). IsSound (change (shape_of sound) (entries.Done place l)) latest (count + 1) room' (tables_after st db)) (sym sound.sees)
+    (done_only latest count room room' sound.newest sound.older sound.wrote sound.node sound.standing sound.stage sound.left place l st (facts_of s latest count room seen sound) more
+    (on_desk latest sound.newest sound.older sound.wrote sound.node sound.standing sound.stage sound.left place l (AsksTake st) here)))
 
 -- what the shared state asks is what makes the entry possible
 pub done_possible : (s : State) (place l : ℕ) (st : Statement) → CanTakeLine s place l st → IsPossible s (entries.Done place l)
 done_possible s place l st can = at_desk (slice_get s.desks place) l st can
   where
-  at_deed : (desk : Desk) (d : Deed) (st : Statement) → DeedIs d (AsksTake st desk) → DeedIs d (λ statement. IsOpen desk.stage × IsRunning desk.standing (CanTake statement))
-  at_deed desk (deeds.Statement statement) st h = (h.1, h.2)
-  at_deed desk (deeds.Step step) st h = h
-  at_line : (desk : Desk) (lines : List Line) (l : ℕ) (st : Statement) → LineIs lines l (AsksTake st desk) → LineIs lines l (λ statement. IsOpen desk.stage × IsRunning desk.standing (CanTake statement))
-  at_line desk [] l st h = h
-  at_line desk (line ∷ lines) l st h = (h.0, at_deed desk line.deed st h.1)
-  at_desk : (desk : Option Desk) (l : ℕ) (st : Statement) → IsSomeAnd desk (λ desk. LineIs desk.left l (AsksTake st desk)) → IsSomeAnd desk (λ desk. LineIs desk.left l (λ statement. IsOpen desk.stage × IsRunning desk.standing (CanTake statement)))
-  at_desk None l st h = h
-  at_desk (Some desk) l st h = at_line desk desk.left l st h
+    at_deed : (desk : Desk) (d : Deed) (st : Statement) → DeedIs d (AsksTake st desk) → DeedIs d (λ statement. IsOpen desk.stage × IsRunning desk.standing (CanTake statement))
+    at_deed desk (deeds.Statement statement) st h = (h.1, h.2)
+    at_deed desk (deeds.Step step) st h = h
+
+    at_line : (desk : Desk) (lines : List Line) (l : ℕ) (st : Statement) → LineIs lines l (AsksTake st desk) → LineIs lines l (λ statement. IsOpen desk.stage × IsRunning desk.standing (CanTake statement))
+    at_line desk [] l st h = h
+    at_line desk (line ∷ lines) l st h = (h.0, at_deed desk line.deed st h.1)
+
+    at_desk : (desk : Option Desk) (l : ℕ) (st : Statement) → IsSomeAnd desk (λ desk. LineIs desk.left l (AsksTake st desk)) → IsSomeAnd desk (λ desk. LineIs desk.left l (λ statement. IsOpen desk.stage × IsRunning desk.standing (CanTake statement)))
+    at_desk None l st h = h
+    at_desk (Some desk) l st h = at_line desk desk.left l st h

@@ -74,8 +74,10 @@ desks-desk_commits (Some desk) s = desks-commit_run desk.standing s
 
 pub at_commit : (old new : PlexState) (l c : ℕ) (standing : Standing) (stage : Stage) (left : List Line) → IsNext old (entries.Commit 0 l c) new → IsAt old standing stage left → IsAt new idle fresh (drop 1 left)
 at_commit old new l c standing stage left next at =
-    record { desks_are = desks_after old new (entries.Commit 0 l c) ended standing stage left next
-      (ap (changed_at 0 ended) (desks-desk_commits (slice_get (state_of old).desks 0) (state_of old))) at }
+    record {
+      desks_are = desks_after old new (entries.Commit 0 l c) ended standing stage left next
+          (ap (changed_at 0 ended) (desks-desk_commits (slice_get (state_of old).desks 0) (state_of old))) at;
+    }
 
 -- THE REPLY of a line that took effect
 

@@ -48,11 +48,11 @@ content-live [] [] = refl
 content-live [] (row ∷ rows) = ap (λ rs. row ∷ rs) (content-live [] rows)
 content-live (x ∷ xs) rows = either x xs rows x.alive (content-live xs rows)
   where
-  either : (x : Slot) (xs : List Slot) (rows : List (List Value)) (b : Bool) → map (λ (s : Slot). s.row) (filter (λ (s : Slot). s.alive) (xs ++ map live_slot rows)) ≡ map (λ (s : Slot). s.row) (filter (λ (s : Slot). s.alive) xs) ++ rows
-      → map (λ (s : Slot). s.row) (cond b (x ∷ filter (λ (s : Slot). s.alive) (xs ++ map live_slot rows)) (filter (λ (s : Slot). s.alive) (xs ++ map live_slot rows)))
+    either : (x : Slot) (xs : List Slot) (rows : List (List Value)) (b : Bool) → map (λ (s : Slot). s.row) (filter (λ (s : Slot). s.alive) (xs ++ map live_slot rows)) ≡ map (λ (s : Slot). s.row) (filter (λ (s : Slot). s.alive) xs) ++ rows
+        → map (λ (s : Slot). s.row) (cond b (x ∷ filter (λ (s : Slot). s.alive) (xs ++ map live_slot rows)) (filter (λ (s : Slot). s.alive) (xs ++ map live_slot rows)))
         ≡ map (λ (s : Slot). s.row) (cond b (x ∷ filter (λ (s : Slot). s.alive) xs) (filter (λ (s : Slot). s.alive) xs)) ++ rows
-  either x xs rows true h = ap (λ rs. x.row ∷ rs) h
-  either x xs rows false h = h
+    either x xs rows true h = ap (λ rs. x.row ∷ rs) h
+    either x xs rows false h = h
 
 content-with_rows : (t : Table) (rows : List (List Value)) → content (with_rows t rows) ≡ content t ++ rows
 content-with_rows t rows = content-live t.slots rows
@@ -84,8 +84,8 @@ rows_granted old t rows fit room stands =
     let off : nat_lt (row_limit t.columns) (length t.slots + length rows) ≡ false = not_past (row_limit t.columns) (length t.slots + length rows) (omega arith) in
     rw (bad, off) refl
   where
-  not_past : (a b : ℕ) → b ≤ a → nat_lt a b ≡ false
-  not_past a b h = grind (arith, nat_tests)
+    not_past : (a b : ℕ) → b ≤ a → nat_lt a b ≡ false
+    not_past a b h = grind (arith, nat_tests)
 
 -- PLACES AMONG THE STORED TABLES
 
@@ -150,9 +150,9 @@ pub select_err : (select : Select) (ss : List Stored) (db : Database) (i : ℕ) 
 select_err select ss db i at cause place is reads stand =
     let f = found_at select.table ss db i at place is stand in either f.0 f.1 (reads f.0 f.2)
   where
-  either : (t : Table) → table_of select.table db ≡ Some t → (cause ≡ refusals.NoMemory) ⊎ (first_no_column t.columns select.items ≡ Some cause) → IsTableCause (statements.Select select) db cause
-  either t at_t (inl memory) = inl memory
-  either t at_t (inr found_it) = inr (rw at_t (checks_nil (first_no_column t.columns select.items) ∙ found_it))
+    either : (t : Table) → table_of select.table db ≡ Some t → (cause ≡ refusals.NoMemory) ⊎ (first_no_column t.columns select.items ≡ Some cause) → IsTableCause (statements.Select select) db cause
+    either t at_t (inl memory) = inl memory
+    either t at_t (inr found_it) = inr (rw at_t (checks_nil (first_no_column t.columns select.items) ∙ found_it))
 
 pub select_missing : (select : Select) (ss : List Stored) (db : Database) → place_from 0 select.table ss ≡ None → StandFor ss db → IsTableCause (statements.Select select) db (refusals.NoTable select.table)
 select_missing select ss db place stand = inr (rw (none_found 0 select.table ss db place stand) refl)
@@ -165,9 +165,9 @@ select_stands ss db i at new is keeps stand = set_stand ss db i new stand (λ s 
 position_within : {X : Type 0} (p : X → Bool) (xs : List X) (i : ℕ) → position p xs ≡ Some i → i < length xs
 position_within p xs i h = either (nat_lt (position_or_len p xs) (length xs)) refl h
   where
-  either : (b : Bool) → nat_lt (position_or_len p xs) (length xs) ≡ b → cond b (Some (position_or_len p xs)) None ≡ Some i → i < length xs
-  either true is h = let same : position_or_len p xs ≡ i = cc in let lt : position_or_len p xs < length xs = grind (arith, nat_tests) in omega arith
-  either false is h = cc
+    either : (b : Bool) → nat_lt (position_or_len p xs) (length xs) ≡ b → cond b (Some (position_or_len p xs)) None ≡ Some i → i < length xs
+    either true is h = let same : position_or_len p xs ≡ i = cc in let lt : position_or_len p xs < length xs = grind (arith, nat_tests) in omega arith
+    either false is h = cc
 
 none_left : (a b : Option Refusal) → option_or a b ≡ None → a ≡ None
 none_left None b h = refl

@@ -10,12 +10,10 @@ ghost use Rattle.iq_model.specs.Scripts.{IsRunnable, HasFewTuples};
 ghost use Rattle.iq_model.specs.History.{IsPossible};
 ghost use Rattle.iq_plex.specs.Kept.{IsReadyFor};
 
-use crate::queries;
 use crate::stored::Stored;
-use crate::tables;
-use crate::writes;
+use crate::{queries, tables, writes};
 use iq_ast::{Select, Write};
-use iq_base::{Listed, Locks, Name, NodeSpec, NoMemory, Out, Refusal, SessionSpec};
+use iq_base::{Listed, Locks, Name, NoMemory, NodeSpec, Out, Refusal, SessionSpec};
 use iq_history::{Entry, History};
 use iq_model::Script;
 use std::alloc::Global;
@@ -79,7 +77,11 @@ impl Plex {
         ensures snapshot { result ≡ (state_of self.old).latest }
         ensures next { IsNext self.old (entries.Begin s line (state_of self.old).latest) self.new }
     {
-        self.history.push(Entry::Begin { s, l: line, c: self.latest });
+        self.history.push(Entry::Begin {
+            s,
+            l: line,
+            c: self.latest,
+        });
         self.latest
     }
 
@@ -115,7 +117,13 @@ impl Plex {
     }
 
     /// Answers a query over the tables as the line's transaction sees them, or what refuses it; then nothing changes.
-    pub fn select(&mut self, alloc: Global, s: u32, line: u32, select: &Select) -> Result<Listed<Listed<Out>>, Refusal>
+    pub fn select(
+        &mut self,
+        alloc: Global,
+        s: u32,
+        line: u32,
+        select: &Select,
+    ) -> Result<Listed<Listed<Out>>, Refusal>
         requires holds { HoldsLine (state_of self.old) s line (statements.Select select.now) }
         requires plain { IsPlainSelect select.now }
         ensures answer { IfOk result (λ rows. OfSeen self.old (λ db. rows ≡ answer select.now db)) }
@@ -135,7 +143,11 @@ impl Plex {
         ensures next { IsNext self.old (entries.Commit s line ((state_of self.old).latest + 1)) self.new }
     {
         let number = self.latest + 1;
-        self.history.push(Entry::Commit { s, l: line, c: number });
+        self.history.push(Entry::Commit {
+            s,
+            l: line,
+            c: number,
+        });
         self.latest = number;
         number
     }
@@ -153,7 +165,11 @@ impl Plex {
         requires { CanRefuseLine (state_of self.old) s line cause.now }
         ensures { IsNext self.old (entries.Refused (Some s) line cause.now) self.new }
     {
-        self.history.push(Entry::Refused { s: Some(s), l: line, cause: cause.again() });
+        self.history.push(Entry::Refused {
+            s: Some(s),
+            l: line,
+            cause: cause.again(),
+        });
     }
 }
 

@@ -15,20 +15,30 @@ use iq_model::{column_place, first_no_column, out_of};
 use std::alloc::Global;
 
 /// The rows of a query, or what refuses it. The tables stand as they stood.
-pub fn select(alloc: Global, tables: &mut Vec<Stored>, select: &Select) -> Result<Listed<Listed<Out>>, Refusal>
+pub fn select(
+    alloc: Global,
+    tables: &mut Vec<Stored>,
+    select: &Select,
+) -> Result<Listed<Listed<Out>>, Refusal>
     requires { IsPlainSelect select.now }
     ensures ok { IfOk result (λ rows. (db : Database) → StandFor tables.old.items db → IsGranted (statements.Select select.now) db × (rows ≡ answer select.now db)) }
     ensures err { IfErr result (λ cause. (db : Database) → StandFor tables.old.items db → IsTableCause (statements.Select select.now) db cause) }
     ensures stands { (db : Database) → StandFor tables.old.items db → StandFor tables.new.items db }
 {
     match place_of(tables.as_slice(), &select.table) {
-        None => Err(Refusal::NoTable { name: select.table.again() }),
+        None => Err(Refusal::NoTable {
+            name: select.table.again(),
+        }),
         Some(place) => rows_in(alloc, &mut tables[place], select.items.as_slice()),
     }
 }
 
 /// The rows of a query over one table, or the first name that is no column of it.
-fn rows_in(alloc: Global, stored: &mut Stored, items: &[Item]) -> Result<Listed<Listed<Out>>, Refusal>
+fn rows_in(
+    alloc: Global,
+    stored: &mut Stored,
+    items: &[Item],
+) -> Result<Listed<Listed<Out>>, Refusal>
     requires { AreItems items.now }
     ensures ok { IfOk result (λ rows. (t : Table) → StandsFor stored.old t → (first_no_column t.columns items.now ≡ None) × (rows ≡ rows_of t.columns items.now (content t))) }
     ensures err { IfErr result (λ cause. (t : Table) → StandsFor stored.old t → (cause ≡ Refusal.NoMemory) ⊎ (first_no_column t.columns items.now ≡ Some cause)) }
@@ -55,7 +65,11 @@ fn counted(alloc: Global, count: u32) -> Result<Listed<Listed<Out>>, NoMemory>
 }
 
 /// The values of columns that are there, row by row. Each page of a column is read once for each mention of it.
-fn read_rows(alloc: Global, stored: &mut Stored, items: &[Item]) -> Result<Listed<Listed<Out>>, NoMemory>
+fn read_rows(
+    alloc: Global,
+    stored: &mut Stored,
+    items: &[Item],
+) -> Result<Listed<Listed<Out>>, NoMemory>
     requires plain { AllPlain items.now }
     requires there { first_no_column stored.old.table.schema.columns items.now ≡ None }
     ensures rows { IfOk result (λ rows. (t : Table) → StandsFor stored.old t → rows ≡ map (projected t.columns items.now) (content t)) }
@@ -63,7 +77,10 @@ fn read_rows(alloc: Global, stored: &mut Stored, items: &[Item]) -> Result<Liste
 {
     let places = places(alloc, stored.table.schema.columns.as_slice(), items)?;
     // Pages in memory of which no call is to fail refuse for want of memory alone.
-    match stored.table.read_columns(alloc, 0, &mut stored.pages, places.as_slice()) {
+    match stored
+        .table
+        .read_columns(alloc, 0, &mut stored.pages, places.as_slice())
+    {
         Ok(rows) => answered(alloc, rows.as_slice()),
         Err(_) => Err(NoMemory),
     }

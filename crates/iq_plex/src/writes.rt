@@ -24,14 +24,24 @@ pub fn write(alloc: Global, tables: &mut Vec<Stored>, write: &Write) -> Result<(
     ensures err { IfErr result (λ cause. (db : Database) → StandFor tables.old.items db → IsTableCause (statements.Write write.now) db cause × StandFor tables.new.items db) }
 {
     match write {
-        Write::CreateTable { name, schema } => create(alloc, tables, name, schema.columns.as_slice()),
+        Write::CreateTable { name, schema } => create(
+            alloc,
+            tables,
+            name,
+            schema.columns.as_slice(),
+        ),
         Write::Insert { table, rows } => insert(tables, table, rows.as_slice()),
         _ => unreachable!(),
     }
 }
 
 /// Puts a table without rows among the tables, in the order of names.
-fn create(alloc: Global, tables: &mut Vec<Stored>, name: &Name, columns: &[Column]) -> Result<(), Refusal>
+fn create(
+    alloc: Global,
+    tables: &mut Vec<Stored>,
+    name: &Name,
+    columns: &[Column],
+) -> Result<(), Refusal>
     requires { length columns.now ≤ 32 }
     ensures ok { OnOk result ((db : Database) → StandFor tables.old.items db → (first_refusal (create_checks name.now db) ≡ None) × StandFor tables.new.items (placed (empty_table name.now columns.now) db)) }
     ensures err { IfErr result (λ cause. (db : Database) → StandFor tables.old.items db → ((cause ≡ Refusal.NoMemory) ⊎ (first_refusal (create_checks name.now db) ≡ Some cause)) × StandFor tables.new.items db) }

@@ -99,8 +99,13 @@ pub locked_of : (p q : PlexState) (n : ℕ) (st : Statement) (names : List Name)
 locked_of p q n st names r next is = record {
   run = with_names names r.run;
   under = record {
-    line = r.under.line; rest = r.under.rest; at = at_lock p q n names r.run begun (r.under.line ∷ r.under.rest) next r.under.at;
-    number_is = r.under.number_is; deed_is = r.under.deed_is; built = r.under.built; few = r.under.few;
+    line = r.under.line;
+    rest = r.under.rest;
+    at = at_lock p q n names r.run begun (r.under.line ∷ r.under.rest) next r.under.at;
+    number_is = r.under.number_is;
+    deed_is = r.under.deed_is;
+    built = r.under.built;
+    few = r.under.few;
   };
   holds = ap (λ held. held ++ names) r.holds.0 ∙ is;
 }
@@ -127,8 +132,13 @@ pub done_of : (p q : PlexState) (n : ℕ) (write : Write) → Runs p locked n (s
 done_of p q n write r next = record {
   run = with_effect (r.under.line ∷ r.under.rest) r.run;
   under = record {
-    line = r.under.line; rest = r.under.rest; at = at_done p q n r.run locked (r.under.line ∷ r.under.rest) next r.under.at;
-    number_is = r.under.number_is; deed_is = r.under.deed_is; built = r.under.built; few = r.under.few;
+    line = r.under.line;
+    rest = r.under.rest;
+    at = at_done p q n r.run locked (r.under.line ∷ r.under.rest) next r.under.at;
+    number_is = r.under.number_is;
+    deed_is = r.under.deed_is;
+    built = r.under.built;
+    few = r.under.few;
   };
   holds = λ none. some_names write (sym (held_after r.under.line r.under.rest (statements.Write write) r.run.now r.under.deed_is ∙ r.holds) ∙ none);
 }
@@ -143,10 +153,10 @@ pub can_refuse_select : (p : PlexState) (n : ℕ) (select : Select) (cause : Ref
     → OfSeen p (λ db. IsTableCause (statements.Select select) db cause) → CanRefuseLine (state_of p) 0 n cause
 can_refuse_select p n select cause r told = either (seen_of p n (statements.Select select) begun HoldsNone r (λ db. IsTableCause (statements.Select select) db cause) told)
   where
-  either : IsTableCause (statements.Select select) r.run.now.seen cause → CanRefuseLine (state_of p) 0 n cause
-  either (inl memory) = subst (λ (x : Refusal). CanRefuseLine (state_of p) 0 n x) (sym memory) (can_refuse_memory p n (statements.Select select) begun HoldsNone r tt)
-  either (inr found) =
-      can_refuse p n (statements.Select select) cause HoldsNone r
+    either : IsTableCause (statements.Select select) r.run.now.seen cause → CanRefuseLine (state_of p) 0 n cause
+    either (inl memory) = subst (λ (x : Refusal). CanRefuseLine (state_of p) 0 n x) (sym memory) (can_refuse_memory p n (statements.Select select) begun HoldsNone r tt)
+    either (inr found) =
+        can_refuse p n (statements.Select select) cause HoldsNone r
         (sym (ap first_refusal (checks_nil (statement_checks (statements.Select select) r.run.now.seen))) ∙ found)
 
 -- LINES IN THEIR ORDER
@@ -168,9 +178,9 @@ run_more first p q lines i line reply rs is lt runs ends placed =
 pub grammar_more : (lines : List Line) (i : ℕ) → i < length lines → AllByRecursion IsRunnableLine (drop i lines) → AllByRecursion IsRunnableLine (drop (i + 1) lines)
 grammar_more lines zero lt all = first lines lt all
   where
-  first : (lines : List Line) → 0 < length lines → AllByRecursion IsRunnableLine lines → AllByRecursion IsRunnableLine (drop 1 lines)
-  first [] lt all = absurd (omega arith)
-  first (l ∷ ls) lt all = all.1
+    first : (lines : List Line) → 0 < length lines → AllByRecursion IsRunnableLine lines → AllByRecursion IsRunnableLine (drop 1 lines)
+    first [] lt all = absurd (omega arith)
+    first (l ∷ ls) lt all = all.1
 grammar_more [] (suc i) lt all = absurd (omega arith)
 grammar_more (l ∷ ls) (suc i) lt all =
     let same : suc i + 1 ≡ suc (i + 1) = omega arith in

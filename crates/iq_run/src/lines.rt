@@ -48,7 +48,10 @@ fn commit(plex: &mut Plex, line: u32, write: &Write) -> Reply
     ensures placed { IsPlacedSaid 1 1 result.said }
 {
     let number = plex.commit(0, line);
-    Reply { line, said: written(write, Some(number)) }
+    Reply {
+        line,
+        said: written(write, Some(number)),
+    }
 }
 
 /// Runs a query as a transaction of its own.
@@ -62,7 +65,10 @@ pub(crate) fn run_select(alloc: Global, plex: &mut Plex, line: u32, select: &Sel
         Err(cause) => refuse(plex, line, cause),
         Ok(rows) => {
             plex.end(0, line);
-            Reply { line, said: Said::Answer(Answer::Rows(rows)) }
+            Reply {
+                line,
+                said: Said::Answer(Answer::Rows(rows)),
+            }
         }
     }
 }
@@ -74,7 +80,10 @@ fn refuse(plex: &mut Plex, line: u32, cause: Refusal) -> Reply
     ensures placed { IsPlacedSaid 1 1 result.said }
 {
     plex.refuse(0, line, &cause);
-    Reply { line, said: Said::Refused(cause) }
+    Reply {
+        line,
+        said: Said::Refused(cause),
+    }
 }
 
 /// What a write that took effect is answered.
@@ -88,8 +97,18 @@ fn written(write: &Write, commit: Option<u64>) -> Said
         Write::DropTable { .. } => Said::Dropped { commit },
         Write::CreateIndex { .. } => Said::Created { commit },
         Write::DropIndex { .. } => Said::Dropped { commit },
-        Write::Insert { table: _, rows } => Said::Inserted { rows: rows.len() as u32, commit },
-        Write::Load { table: _, rows, text: _ } => Said::Inserted { rows: *rows, commit },
+        Write::Insert { table: _, rows } => Said::Inserted {
+            rows: rows.len() as u32,
+            commit,
+        },
+        Write::Load {
+            table: _,
+            rows,
+            text: _,
+        } => Said::Inserted {
+            rows: *rows,
+            commit,
+        },
         Write::Delete { .. } => Said::Deleted { rows: 0, commit },
         Write::Update { .. } => Said::Updated { rows: 0, commit },
     }

@@ -31,7 +31,9 @@ fn line_of(met: &EndCause) -> Line
 {
     match met {
         EndCause::Done => text(""),
-        EndCause::Usage => text("usage: iqmux STORE format --blocks N | step | threads [--seed N] | make [--seed N] [--rows N]\n"),
+        EndCause::Usage => text(
+            "usage: iqmux STORE format --blocks N | step | threads [--seed N] | make [--seed N] [--rows N]\n",
+        ),
         EndCause::ScriptFault { line, cause } => fault_line(*line, *cause),
         EndCause::ReadFault { before, after } => counts_line("iqmux: read fault ", *before, *after),
         EndCause::OutFault { before, after } => counts_line("iqmux: write fault ", *before, *after),

@@ -19,7 +19,14 @@ const MOST_BYTES: usize = 16_777_216;
 
 /// Runs the program on the words behind its name: reads the script, runs it, and writes the transcript to `out`, and to `err`
 /// a line for an end other than success. It promises its return in no mode, since one body serves all modes.
-pub fn multiplex<R: Threads + Wait + Sync, I: Source, O: Sink, E: Sink, D: Device + Send, G: Gate + Sync>(
+pub fn multiplex<
+    R: Threads + Wait + Sync,
+    I: Source,
+    O: Sink,
+    E: Sink,
+    D: Device + Send,
+    G: Gate + Sync,
+>(
     rt: &R,
     alloc: Global,
     words: &[String],
@@ -30,12 +37,26 @@ pub fn multiplex<R: Threads + Wait + Sync, I: Source, O: Sink, E: Sink, D: Devic
     gate: &G,
 ) -> Ended<D>
     ensures ended { HasEnded (map string_bytes words.now)
-        (record { left = I.left script.old; source_first = I.faults script.old; source_last = I.faults script.new;
-          written = O.written out.old; written_now = O.written out.new; sink_first = O.faults out.old; sink_last = O.faults out.new })
+        (record {
+          left = I.left script.old;
+          source_first = I.faults script.old;
+          source_last = I.faults script.new;
+          written = O.written out.old;
+          written_now = O.written out.new;
+          sink_first = O.faults out.old;
+          sink_last = O.faults out.new;
+        })
         result.status (E.written err.old) (E.written err.new) (E.faults err.old) (E.faults err.new) }
     ensures complete { IsComplete (map string_bytes words.now)
-        (record { left = I.left script.old; source_first = I.faults script.old; source_last = I.faults script.new;
-          written = O.written out.old; written_now = O.written out.new; sink_first = O.faults out.old; sink_last = O.faults out.new })
+        (record {
+          left = I.left script.old;
+          source_first = I.faults script.old;
+          source_last = I.faults script.new;
+          written = O.written out.old;
+          written_now = O.written out.new;
+          sink_first = O.faults out.old;
+          sink_last = O.faults out.new;
+        })
         result.status (E.faults err.old) (E.faults err.new) }
     ensures device { result.rest ≡ Rest.Disk disk }
 {
@@ -58,8 +79,15 @@ fn run_words<R: Threads + Sync, I: Source, O: Sink, D: Device>(
     disk: D,
 ) -> Ran<D>
     ensures met { IsMet (map string_bytes words.now)
-        (record { left = I.left script.old; source_first = I.faults script.old; source_last = I.faults script.new;
-          written = O.written out.old; written_now = O.written out.new; sink_first = O.faults out.old; sink_last = O.faults out.new })
+        (record {
+          left = I.left script.old;
+          source_first = I.faults script.old;
+          source_last = I.faults script.new;
+          written = O.written out.old;
+          written_now = O.written out.new;
+          sink_first = O.faults out.old;
+          sink_last = O.faults out.new;
+        })
         result.cause }
     ensures device { result.rest ≡ Rest.Disk disk }
 {
@@ -95,7 +123,10 @@ fn script_of<I: Source>(alloc: Global, source: &mut I) -> Result<Script, EndCaus
         Err(ReadFault::TooLong) => Err(EndCause::TooLong),
         Err(ReadFault::NoMemory) => Err(EndCause::NoMemory),
         Ok(bytes) => match read_script(alloc, bytes.as_slice()) {
-            Err(ScriptRefusal::ScriptFault { line, cause }) => Err(EndCause::ScriptFault { line, cause }),
+            Err(ScriptRefusal::ScriptFault { line, cause }) => Err(EndCause::ScriptFault {
+                line,
+                cause,
+            }),
             Err(ScriptRefusal::NoMemory) => Err(EndCause::NoMemory),
             Ok(script) => Ok(script),
         },

@@ -23,22 +23,24 @@ length-tokens_from left [] ts h = let none : [] ≡ ts = cc in let l : 0 ≡ len
 length-tokens_from (suc left) (b ∷ rest) ts h = let n = length-tokens_from left rest ts h in omega arith
 length-tokens_from zero (b ∷ rest) ts h = by_space (is_space b) b rest ts (length-tokens_from zero rest ts) (λ n. length-tokens_from n rest) h
   where
-  by_front : (rest : List ℕ) (ts : List Token) (more : (n : ℕ) (us : List Token) → tokens_from n rest ≡ Some us → length us ≤ length rest) (f : Front) (o : Option (List Token)) → tokens_from (f.bytes - 1) rest ≡ o
-      → option_map (λ (others : List Token). f.token ∷ others) o ≡ Some ts → length ts ≤ suc (length rest)
-  by_front rest ts more f None is h = cc
-  by_front rest ts more f (Some us) is h =
-      let same : f.token ∷ us ≡ ts = cc in
-      let n = more (f.bytes - 1) us is in
-      let l : suc (length us) ≡ length ts = ap length same in
-      omega arith
-  by_found : (b : ℕ) (rest : List ℕ) (ts : List Token) (more : (n : ℕ) (us : List Token) → tokens_from n rest ≡ Some us → length us ≤ length rest) (o : Option Front)
-      → (o >>= λ (front : Front). option_map (λ (others : List Token). front.token ∷ others) (tokens_from (front.bytes - 1) rest)) ≡ Some ts → length ts ≤ suc (length rest)
-  by_found b rest ts more None h = cc
-  by_found b rest ts more (Some f) h = by_front rest ts more f (tokens_from (f.bytes - 1) rest) refl h
-  by_space : (s : Bool) (b : ℕ) (rest : List ℕ) (ts : List Token) → (tokens_from zero rest ≡ Some ts → length ts ≤ length rest) → ((n : ℕ) (us : List Token) → tokens_from n rest ≡ Some us → length us ≤ length rest)
-      → cond s (tokens_from zero rest) (front_of (b ∷ rest) >>= λ (front : Front). option_map (λ (others : List Token). front.token ∷ others) (tokens_from (front.bytes - 1) rest)) ≡ Some ts → length ts ≤ suc (length rest)
-  by_space true b rest ts same more h = let n = same h in omega arith
-  by_space false b rest ts same more h = by_found b rest ts more (front_of (b ∷ rest)) h
+    by_front : (rest : List ℕ) (ts : List Token) (more : (n : ℕ) (us : List Token) → tokens_from n rest ≡ Some us → length us ≤ length rest) (f : Front) (o : Option (List Token)) → tokens_from (f.bytes - 1) rest ≡ o
+        → option_map (λ (others : List Token). f.token ∷ others) o ≡ Some ts → length ts ≤ suc (length rest)
+    by_front rest ts more f None is h = cc
+    by_front rest ts more f (Some us) is h =
+        let same : f.token ∷ us ≡ ts = cc in
+        let n = more (f.bytes - 1) us is in
+        let l : suc (length us) ≡ length ts = ap length same in
+        omega arith
+
+    by_found : (b : ℕ) (rest : List ℕ) (ts : List Token) (more : (n : ℕ) (us : List Token) → tokens_from n rest ≡ Some us → length us ≤ length rest) (o : Option Front)
+        → (o >>= λ (front : Front). option_map (λ (others : List Token). front.token ∷ others) (tokens_from (front.bytes - 1) rest)) ≡ Some ts → length ts ≤ suc (length rest)
+    by_found b rest ts more None h = cc
+    by_found b rest ts more (Some f) h = by_front rest ts more f (tokens_from (f.bytes - 1) rest) refl h
+
+    by_space : (s : Bool) (b : ℕ) (rest : List ℕ) (ts : List Token) → (tokens_from zero rest ≡ Some ts → length ts ≤ length rest) → ((n : ℕ) (us : List Token) → tokens_from n rest ≡ Some us → length us ≤ length rest)
+        → cond s (tokens_from zero rest) (front_of (b ∷ rest) >>= λ (front : Front). option_map (λ (others : List Token). front.token ∷ others) (tokens_from (front.bytes - 1) rest)) ≡ Some ts → length ts ≤ suc (length rest)
+    by_space true b rest ts same more h = let n = same h in omega arith
+    by_space false b rest ts same more h = by_found b rest ts more (front_of (b ∷ rest)) h
 
 -- tuples after commas have a token each
 length-next : (rows : List (List Value)) → length rows ≤ length (flat_map (next_spelled tuple_spelling) rows)
@@ -59,7 +61,7 @@ length-spelled : (st : Statement) (tokens : List Token) → Spells st tokens →
 length-spelled st tokens spells = ⊎_elim
     (λ is. let l : length tokens ≡ length (spelling st) = ap length is in omega arith)
     (λ is. let l : length tokens ≡ length (spelling st ++ token.Mark mark.Semicolon ∷ []) = ap length is in
-      let m = length-append (spelling st) (token.Mark mark.Semicolon ∷ []) in omega arith)
+    let m = length-append (spelling st) (token.Mark mark.Semicolon ∷ []) in omega arith)
     spells.spelled
 
 few_insert : (table : List ℕ) (rows : List (List Value)) (text : List ℕ) → IsStatementOf text (statements.Write (writes.Insert table rows)) → length rows ≤ 16777216

@@ -13,7 +13,7 @@ refuse-requires c =
     let r = locked_of c.args.plex.now c.lock.new.self c.args.line st c.names_of.result c.requires c.lock.ensures c.names_of.ensures in
     let cause = seen_of c.lock.new.self c.args.line st locked (HoldsNames st) r (λ (db : Database). IsTableCause st db c.in-Err.cause) c.in-Err.ensures.err in
     subst (λ (p : PlexState). CanRefuseLine (state_of p) 0 c.args.line c.in-Err.cause) (sym c.in-Err.ensures.unchanged)
-      (can_refuse_locked c.lock.new.self c.args.line st c.in-Err.cause (HoldsNames st) r cause)
+    (can_refuse_locked c.lock.new.self c.args.line st c.in-Err.cause (HoldsNames st) r cause)
 
 pub commit-requires : goal.commit-requires
 commit-requires c =

@@ -8,7 +8,7 @@ pub loop-line-preserved : goal.loop-line-preserved
 loop-line-preserved c =
     let i = c.loop-line.line-index in
     let more = run_more c.args.plex.now c.loop-line.plex c.run_line.new.plex c.args.lines.now i c.line-item.result c.run_line.result c.loop-line.replies.items
-          c.line-item.is c.loop-line-test.true c.loop-line.invariant.so_far c.run_line.ensures.line c.run_line.ensures.placed in
+    c.line-item.is c.loop-line-test.true c.loop-line.invariant.so_far c.run_line.ensures.line c.run_line.ensures.placed in
     record {
       so_far = subst (λ (rs : List Reply). RunsLines c.args.plex.now (drop (i + 1) c.args.lines.now) rs c.run_line.new.plex) (sym c.in_ok-push.ensures.items) more;
       runnable = grammar_more c.args.lines.now i c.loop-line-test.true c.loop-line.invariant.runnable;

@@ -11,7 +11,7 @@ invariant_of-result c =
     let ready : IsReadyFor c.args.script.now c.in_ok-history.history = c.in_ok-history.ensures in
     let kept = kept_start c.args.script.now c.in_ok-history.history c.requires ready in
     subst (λ (ts : List Stored). IsKept c.of.result.value c.in_ok-history.history ts 0) (sym c.new.ensures.items)
-      (subst (λ (s : Script). IsKept s c.in_ok-history.history [] 0) (sym c.of.ensures) kept)
+    (subst (λ (s : Script). IsKept s c.in_ok-history.history [] 0) (sym c.of.ensures) kept)
 
 pub returns : goal.returns
 returns c =

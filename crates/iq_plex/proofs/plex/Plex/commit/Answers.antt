@@ -16,4 +16,4 @@ invariant_of-self c =
 pub returns-clause-next : goal.returns-clause-next
 returns-clause-next c = rw (← c.self.view_is)
     (subst (λ (e : Entry). IsNext (record { script = c.self.inside.script.value; opening = []; entries = c.self.inside.history.entries }) e (record { script = c.self.inside.script.value; opening = []; entries = c.push.new.self.entries })) (commit_at c.self.inside.script.value c.self.inside.history c.self.inside.tables.items c.self.inside.latest c.args.s c.args.line c.self.invariant)
-      (next_of c.self.inside.script.value [] c.self.inside.history.entries c.push.new.self.entries (entries.Commit c.args.s c.args.line (c.self.inside.latest + 1)) c.push.ensures.one_more))
+    (next_of c.self.inside.script.value [] c.self.inside.history.entries c.push.new.self.entries (entries.Commit c.args.s c.args.line (c.self.inside.latest + 1)) c.push.ensures.one_more))
