@@ -38,6 +38,12 @@ module _ {S N : Type 0} where
   abbrev pub idle_view : ℕ → List N → View S N
   idle_view = view Idle
 
+  module _ (apart : N → N → Type 0) where
+    -- two seats, whose notes are apart and whose tickets differ
+    pub record AreApart (v w : View S N) : Type 0 where
+      pub notes : All (λ n. All (apart n) w.notes) v.notes
+      pub tickets : (t : ℕ) → HasTicket t v.stage → HasTicket t w.stage → ⊥
+
   module _ (agrees : N → S → Type 0) (apart : N → N → Type 0) where
     -- a seat whose notes agree with the state and are apart, with no note where it has no part
     pub record FitsSeat (drawn served : ℕ) (state : S) (homes : List (Slot (Option S))) (v : View S N) : Type 0 where
@@ -45,11 +51,6 @@ module _ {S N : Type 0} where
       pub within : AllPairs apart v.notes
       pub spent : v.parts ≡ 0 → (v.stage ≡ Idle) × (v.notes ≡ [])
       pub stage : FitsStage drawn served state homes v.stage
-
-    -- two seats, whose notes are apart and whose tickets differ
-    pub record AreApart (v w : View S N) : Type 0 where
-      pub notes : All (λ n. All (apart n) w.notes) v.notes
-      pub tickets : (t : ℕ) → HasTicket t v.stage → HasTicket t w.stage → ⊥
 
     -- The words count the tickets drawn and served, modulo 2^64. No more tickets are out than there are parts, and the slot is at home unless a seat has it
     pub record IsRuled (parts : ℕ) (st : State (Option S) (View S N)) : Type 0 where
@@ -62,5 +63,5 @@ module _ {S N : Type 0} where
       pub ahead : served ≤ drawn
       pub out : drawn ≤ served + sum_by (λ (v : View S N). busy v.stage) st.views
       pub each : (i : ℕ) (v : View S N) → get_elem? st.views i ≡ some v → FitsSeat drawn served state st.homes v
-      pub pairs : (i j : ℕ) (v w : View S N) → i ≢ j → get_elem? st.views i ≡ some v → get_elem? st.views j ≡ some w → AreApart v w
+      pub pairs : (i j : ℕ) (v w : View S N) → i ≢ j → get_elem? st.views i ≡ some v → get_elem? st.views j ≡ some w → AreApart apart v w
       pub home : ((i : ℕ) (v : View S N) → get_elem? st.views i ≡ some v → HoldsState v.stage → ⊥) → st.homes ≡ some (Some state) ∷ []

@@ -22,7 +22,7 @@ pub trait Shared: Drop {
 
     ghost right: { Self.Note → Self.Note };
 
-    ghost mutual: { (n m : Self.Note) → apart n m → apart m n };
+    ghost both_ways: { (n m : Self.Note) → apart n m → apart m n };
 
     ghost divides: { (n : Self.Note) (s : Self) → agrees n s → IsDivided agrees apart n (left n) (right n) s };
 }

@@ -1,0 +1,1 @@
+-- The seat that has all parts finds the state at home.
