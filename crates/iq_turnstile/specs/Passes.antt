@@ -1,11 +1,13 @@
 -- What clauses say of a turnstile and its passes.
-use Rattle.std.specs.Prelude.{◌≡◌, ℕ, ◌%◌, ◌^◌, ◌<◌, List, [], ◌∷◌, All, AllPairs, flat_map, sum_by, Option, Some}
+use Rattle.std.specs.Prelude.{◌≡◌, ℕ, ◌+◌, ◌%◌, ◌^◌, ◌<◌, List, [], ◌∷◌, ◌++◌, All, AllPairs, flat_map, sum_by, Option, Some}
+use Rattle.atomic_table.specs.declared.shared.Seat.{Seat}
 use Rattle.iq_turnstile.specs.declared.turnstile.Turnstile.{Turnstile}
 use Rattle.iq_turnstile.specs.declared.turnstile.Pass.{Pass}
 use Rattle.iq_turnstile.specs.declared.view.Stage.{Stage}
 use Rattle.iq_turnstile.specs.declared.view.Stage.TheVariants.{Idle, Waiting, Holding}
+use Rattle.iq_turnstile.specs.declared.view.View.{View}
 use Rattle.iq_turnstile.specs.Notes.{IsTurn}
-use Rattle.iq_turnstile.specs.Rule.{view}
+use Rattle.iq_turnstile.specs.Rule.{view, idle_view}
 
 module _ {S N : Type 0} where
   -- the parts of a pass
@@ -77,3 +79,14 @@ module _ {S N : Type 0} where
       pub acted : acts a taken b given
       pub note_is : notes ≡ after n a b taken given ∷ []
       pub turn : IsTurn agrees apart may n (after n a b taken given) taken given
+
+  -- the seat has been joined with the passes that are no longer in `rest`: it has their notes and parts
+  pub record HasJoined (door : Turnstile S N) (passes rest : List (Pass S N)) (seat : Seat (Option S) (View S N)) : Type 0 where
+    pub parts : ℕ
+    pub notes : List N
+    pub place : seat.table_id ≡ door.table.shared.table_id
+    pub knows : seat.me ≡ (idle_view parts notes, [])
+    pub some_part : 0 < parts
+    pub others : All (IsOf door) rest
+    pub whole : sum_of_parts rest + parts ≡ sum_of_parts passes
+    pub noted : all_notes rest ++ notes ≡ all_notes passes
