@@ -2,3 +2,4 @@ pub mod Views
 pub mod Seats
 pub mod Keeps
 pub mod Closing
+pub mod Counting

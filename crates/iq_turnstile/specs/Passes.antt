@@ -1,5 +1,5 @@
 -- What clauses say of a turnstile and its passes.
-use Rattle.std.specs.Prelude.{◌≡◌, ℕ, ◌+◌, ◌%◌, ◌^◌, ◌<◌, List, [], ◌∷◌, ◌++◌, All, AllPairs, flat_map, sum_by, Option, Some}
+use Rattle.std.specs.Prelude.{◌≡◌, ℕ, ◌+◌, ◌%◌, ◌^◌, ◌<◌, List, [], ◌∷◌, ◌++◌, All, AllPairs, flat_map, sum_by, slice_index_or, Option, Some}
 use Rattle.atomic_table.specs.declared.shared.Seat.{Seat}
 use Rattle.iq_turnstile.specs.declared.turnstile.Turnstile.{Turnstile}
 use Rattle.iq_turnstile.specs.declared.turnstile.Pass.{Pass}
@@ -17,6 +17,10 @@ module _ {S N : Type 0} where
   -- the note of a pass, as a list of one
   abbrev pub notes_of : Pass S N → List N
   notes_of pass = pass.seat.me.0.notes
+
+  -- the note of a pass, or d where it has none, which no pass of a turnstile is without
+  abbrev pub note_or : N → Pass S N → N
+  note_or d pass = slice_index_or (notes_of pass) 0 d
 
   -- all parts of a turnstile
   abbrev pub all_parts : Turnstile S N → ℕ

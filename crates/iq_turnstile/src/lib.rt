@@ -6,10 +6,11 @@
 #![tactic(auto)]
 
 mod close;
+pub mod counter;
 mod make;
 mod plays;
 mod rule;
-mod share;
+mod parts;
 mod shared;
 mod turn;
 mod turnstile;

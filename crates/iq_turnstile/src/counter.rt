@@ -1,0 +1,114 @@
+//! A counter with a history: a small shared state that meets the traits, and shows how notes tell passes apart.
+//!
+//! Contracts see a `Counter` as the list of what was added.
+ghost use Rattle.std.specs.Prelude.{◌≡◌, [], ◌++◌, sum_by};
+ghost use Rattle.iq_turnstile.specs.Counter.{entry, grown};
+
+use crate::Shared;
+use std::alloc::Global;
+use std::collections::LinkedList;
+use std::marker::Model;
+
+mod adds;
+
+pub use adds::Adds;
+
+/// What was added, and under which name.
+#[derive(Clone, Copy, Debug, PartialEq, Eq)]
+pub struct Added {
+    pub by: u32,
+    pub amount: u32,
+}
+
+/// Names to add under. No value of it is made.
+pub enum Names {
+    Nobody,
+    One(u32),
+    /// This and all greater names.
+    From(u32),
+}
+
+/// The note of a pass: the names that it adds under, and what it added. No value of it is made.
+pub struct Mine {
+    pub names: Names,
+    pub added: LinkedList<Added>,
+}
+
+/// A sum, with all that was added to it.
+#[derive(Drop)]
+pub struct Counter {
+    total: u64,
+    history: Vec<Added>,
+}
+
+impl Model for Counter {
+    ghost use Rattle.std.specs.Prelude.{◌≡◌, List, sum_by};
+    ghost use Rattle.iq_turnstile.specs.declared.counter.Added.{Added};
+
+    ghost Value = { List Added };
+
+    ghost view = { λ c. c.history.items };
+
+    ghost invariant = { λ c. c.total ≡ sum_by (λ (e : Added). e.amount) c.history.items };
+}
+
+impl Counter {
+    pub fn new(alloc: Global) -> Counter
+        ensures { result ≡ [] }
+    {
+        Counter {
+            total: 0,
+            history: Vec::new(alloc),
+        }
+    }
+
+    /// What was added so far, in order.
+    pub fn history(&self) -> &[Added]
+        ensures { result.now ≡ self.now }
+    {
+        self.history.as_slice()
+    }
+
+    pub fn total(&self) -> u64
+        ensures { result ≡ sum_by (λ e. e.amount) self.now }
+    {
+        self.total
+    }
+
+    /// Adds, and says whether it did. It doesn't where memory is missing or the sum wouldn't fit.
+    pub fn add(&mut self, by: u32, amount: u32) -> bool
+        ensures { self.new ≡ grown result (entry by amount) self.old }
+    {
+        let Some(total) = self.total.checked_add(u64::from(amount)) else {
+            return false;
+        };
+        if self.history.push(Added { by, amount }).is_err() {
+            return false;
+        }
+        self.total = total;
+        true
+    }
+}
+
+impl Shared for Counter {
+    ghost use Rattle.iq_turnstile.specs.Counter.{knows_all, Knows, OnlyAdds, ShareNoName, left_note, right_note};
+    ghost use Rattle.iq_turnstile.specs.CounterLaws.{share_both_ways, divides_names};
+
+    type Note = Mine;
+
+    ghost first = { knows_all };
+
+    ghost agrees = { Knows };
+
+    ghost may = { OnlyAdds };
+
+    ghost apart = { ShareNoName };
+
+    ghost left = { left_note };
+
+    ghost right = { right_note };
+
+    ghost both_ways = { share_both_ways };
+
+    ghost divides = { divides_names };
+}
