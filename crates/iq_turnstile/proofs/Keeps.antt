@@ -112,20 +112,20 @@ module _ {S N : Type 0} (agrees : N → S → Type 0) (apart : N → N → Type 
       let v : View S N = view (Waiting t) p ns in
       dite (ℕ_discrete (get_or st.words 1 0) (t % 2 ^ 64))
       (λ found.
-          let seat = law.each id v at in
-          let few = few_out st law in
-          let word : law.served % 2 ^ 64 ≡ t % 2 ^ 64 = sym (ap (λ (ws : List ℕ). get_or ws 1 0) law.words) ∙ found in
-          let same : law.served ≡ t = one_turn law.served t (2 ^ 64) seat.stage.0 (let b = seat.stage.1 in omega arith) word in
-          let home = at_home st id p t ns law at (sym same) in (
-            view (Holding t law.state) p ns,
-            takes 0 (Some law.state),
-            subst (λ (hs : List (Slot (Option S))). get_elem? hs 0 ≡ some (some (Some law.state))) (sym home) refl,
-            taken_rule st id p t ns law has at (sym same),
-            (λ u is_u. let t_is : t ≡ u = cc in (
-              (λ _. (law.state, (λ i. (view (Holding (t_is i) law.state) p ns, (0, Some law.state) ∷ [])), seat.agree)),
-              (λ ne. absurd (ne (found ∙ ap (λ (n : ℕ). n % 2 ^ 64) t_is))),
-            )),
-          ))
+      let seat = law.each id v at in
+      let few = few_out st law in
+      let word : law.served % 2 ^ 64 ≡ t % 2 ^ 64 = sym (ap (λ (ws : List ℕ). get_or ws 1 0) law.words) ∙ found in
+      let same : law.served ≡ t = one_turn law.served t (2 ^ 64) seat.stage.0 (let b = seat.stage.1 in omega arith) word in
+      let home = at_home st id p t ns law at (sym same) in (
+        view (Holding t law.state) p ns,
+        takes 0 (Some law.state),
+        subst (λ (hs : List (Slot (Option S))). get_elem? hs 0 ≡ some (some (Some law.state))) (sym home) refl,
+        taken_rule st id p t ns law has at (sym same),
+        (λ u is_u. let t_is : t ≡ u = cc in (
+          (λ _. (law.state, (λ i. (view (Holding (t_is i) law.state) p ns, (0, Some law.state) ∷ [])), seat.agree)),
+          (λ ne. absurd (ne (found ∙ ap (λ (n : ℕ). n % 2 ^ 64) t_is))),
+        )),
+      ))
       (λ vain. (
         v,
         keeps,
@@ -189,13 +189,13 @@ module _ {S N : Type 0} (agrees : N → S → Type 0) (apart : N → N → Type 
       let agree_one : (k : N) → agrees k law.state → All (λ (z : N). agrees z law.state) (k ∷ []) = λ k h. All-cons (λ (z : N). agrees z law.state) k [] h (All-nil (λ (z : N). agrees z law.state)) in
       let pair : (j : ℕ) (u : View S N) → j ≢ id → get_elem? st.views j ≡ some u → AreApart apart v u = λ j u ne e. law.pairs id j v u (λ same. ne (sym same)) at e in
       let one_apart : (k : N) (q : ℕ) (u : View S N) → All (apart k) u.notes → AreApart apart (idle_view q (k ∷ [])) u =
-          λ k q u h. record { notes = All-cons (λ (z : N). All (apart z) u.notes) k [] h (All-nil (λ (z : N). All (apart z) u.notes)); tickets = λ t a b. a } in
+      λ k q u h. record { notes = All-cons (λ (z : N). All (apart z) u.notes) k [] h (All-nil (λ (z : N). All (apart z) u.notes)); tickets = λ t a b. a } in
       let all_l : (j : ℕ) (u : View S N) → get_elem? vs j ≡ some u → P u = each_set agrees apart both_ways P st.views id w
-          (record { agree = agree_one l cut.left_agrees; within = pairs_one apart l; spent = λ z. absurd (omega arith); stage = tt }) (λ j u ne e. law.each j u e) in
+      (record { agree = agree_one l cut.left_agrees; within = pairs_one apart l; spent = λ z. absurd (omega arith); stage = tt }) (λ j u ne e. law.each j u e) in
       let pairs_l : Pairs agrees apart both_ways vs = pairs_set agrees apart both_ways st.views id w law.pairs (λ j u ne e. one_apart l (p - 1) u (λ k d lt. cut.left_apart _ ((pair j u ne e).notes 0 n (omega arith) k d lt))) in
       let beside : (j : ℕ) (u : View S N) → get_elem? vs j ≡ some u → AreApart apart u x = each_set agrees apart both_ways (λ (u : View S N). AreApart apart u x) st.views id w
-          (one_apart l (p - 1) x (All-cons (apart l) r [] cut.halves (All-nil (apart l))))
-          (λ j u ne e. swapped agrees apart both_ways x u (one_apart r 1 u (λ k d lt. cut.right_apart _ ((pair j u ne e).notes 0 n (omega arith) k d lt)))) in
+      (one_apart l (p - 1) x (All-cons (apart l) r [] cut.halves (All-nil (apart l))))
+      (λ j u ne e. swapped agrees apart both_ways x u (one_apart r 1 u (λ k d lt. cut.right_apart _ ((pair j u ne e).notes 0 n (omega arith) k d lt)))) in
       record {
         drawn = law.drawn;
         served = law.served;
@@ -231,7 +231,7 @@ module _ {S N : Type 0} (agrees : N → S → Type 0) (apart : N → N → Type 
       let fits_v = law.each id v at_v in
       let fits_w = law.each other w at_w in
       let all_s : (j : ℕ) (u : View S N) → get_elem? vs j ≡ some u → P u = each_set agrees apart both_ways P st.views other spent
-          (record { agree = All-nil (λ (z : N). agrees z law.state); within = λ i j d lt l. absurd (omega arith); spent = λ z. (refl, refl); stage = tt }) (λ j u ne e. law.each j u e) in
+      (record { agree = All-nil (λ (z : N). agrees z law.state); within = λ i j d lt l. absurd (omega arith); spent = λ z. (refl, refl); stage = tt }) (λ j u ne e. law.each j u e) in
       let pairs_s : Pairs agrees apart both_ways vs = pairs_set agrees apart both_ways st.views other spent law.pairs (λ j u ne e. none_apart agrees apart both_ways 0 u) in
       record {
         drawn = law.drawn;
@@ -257,9 +257,9 @@ module _ {S N : Type 0} (agrees : N → S → Type 0) (apart : N → N → Type 
         pairs = pairs_set agrees apart both_ways vs id x pairs_s (λ j u ne e. ⊎_elim
             (λ h. subst (λ (z : View S N). AreApart apart x z) h.1 (swapped agrees apart both_ways spent x (none_apart agrees apart both_ways 0 x)))
             (λ h.
-                let by_v = law.pairs id j v u (λ same. ne (sym same)) at_v h.1 in
-                let by_w = law.pairs other j w u (λ same. h.0 (sym same)) at_w h.1 in
-                record { notes = All-append (λ (z : N). All (apart z) u.notes) ms ns by_w.notes by_v.notes; tickets = λ t a b. a })
+            let by_v = law.pairs id j v u (λ same. ne (sym same)) at_v h.1 in
+            let by_w = law.pairs other j w u (λ same. h.0 (sym same)) at_w h.1 in
+            record { notes = All-append (λ (z : N). All (apart z) u.notes) ms ns by_w.notes by_v.notes; tickets = λ t a b. a })
             (at_set st.views other j spent u e));
         home = λ nobody. law.home (nobody_before agrees apart both_ways st.views other w spent at_w (λ h. h) (nobody_before agrees apart both_ways vs id v x at (λ h. h) nobody));
       }
@@ -268,6 +268,6 @@ module _ {S N : Type 0} (agrees : N → S → Type 0) (apart : N → N → Type 
   joins_allowed id other p q ns ms me you is_me is_you has =
       subst (λ (z : Me (Option S) (View S N) × Me (Option S) (View S N)). Joins Rule id z.0.0 other z.1.0 (joined z.0.0 z.1.0) spent) (λ i. (sym is_me i, sym is_you i))
       (λ st law at_v differ at_w.
-          let x : View S N = idle_view (p + q) (ms ++ ns) in
-          let there : get_elem? st.views other ≡ some (idle_view q ms) = sym (set_else st.views id other x differ) ∙ at_w in
-          subst (λ (vs : List (View S N)). Rule (table st.words st.homes vs)) (set_swap st.views other id spent x differ) (join_rule st id other p q ns ms law differ has at_v there))
+      let x : View S N = idle_view (p + q) (ms ++ ns) in
+      let there : get_elem? st.views other ≡ some (idle_view q ms) = sym (set_else st.views id other x differ) ∙ at_w in
+      subst (λ (vs : List (View S N)). Rule (table st.words st.homes vs)) (set_swap st.views other id spent x differ) (join_rule st id other p q ns ms law differ has at_v there))

@@ -2,4 +2,3 @@ pub mod Views
 pub mod Seats
 pub mod Keeps
 pub mod Closing
-pub mod Counting

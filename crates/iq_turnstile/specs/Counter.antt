@@ -4,6 +4,9 @@ use Rattle.iq_turnstile.specs.declared.counter.Added.{Added}
 use Rattle.iq_turnstile.specs.declared.counter.Names.{Names}
 use Rattle.iq_turnstile.specs.declared.counter.Names.TheVariants.{Nobody, One, From}
 use Rattle.iq_turnstile.specs.declared.counter.Mine.{Mine}
+use Rattle.iq_turnstile.specs.declared.turnstile.Turnstile.{Turnstile}
+use Rattle.iq_turnstile.specs.declared.turnstile.Pass.{Pass}
+use Rattle.iq_turnstile.specs.Passes.{IsOf, note_or}
 
 -- whether the name is one of these
 abbrev pub speaks_for : Names → ℕ → Bool
@@ -63,3 +66,8 @@ ShareNoName n m = (x : ℕ) → speaks_for n.names x ≡ true → speaks_for m.n
 -- a turn adds to the history, and the note speaks for the same names
 abbrev pub OnlyAdds : Mine → List Added → List Added → Mine → Type 0
 OnlyAdds n before after m = (m.names ≡ n.names) × ((more : List Added) × (after ≡ before ++ more))
+
+-- the pass is of this turnstile, and speaks for the name
+pub record CanAdd {S : Type 0} (door : Turnstile S Mine) (pass : Pass S Mine) (name : ℕ) : Type 0 where
+  pub here : IsOf door pass
+  pub own : speaks_for (note_or knows_nothing pass).names name ≡ true

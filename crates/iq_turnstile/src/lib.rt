@@ -8,9 +8,9 @@
 mod close;
 pub mod counter;
 mod make;
+mod parts;
 mod plays;
 mod rule;
-mod parts;
 mod shared;
 mod turn;
 mod turnstile;
@@ -18,3 +18,6 @@ mod view;
 
 pub use shared::{Act, Shared};
 pub use turnstile::{Kept, Pass, Returned, Turnstile};
+
+#[cfg(test)]
+mod tests;
