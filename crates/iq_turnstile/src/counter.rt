@@ -1,11 +1,11 @@
 //! A counter with a history: a small shared state that meets the traits, and shows how notes tell passes apart.
 //!
 //! Contracts see a `Counter` as the list of what was added.
-ghost use Rattle.std.specs.Prelude.{◌≡◌, [], ◌++◌, sum_by};
-ghost use Rattle.iq_turnstile.specs.Counter.{entry, grown};
+ghost use Rattle.std.specs.Prelude.{◌≡◌, [], ◌∷◌, ◌++◌, OnOk, OnErr, length};
+ghost use Rattle.iq_turnstile.specs.Counter.{entry};
 
 use crate::Shared;
-use std::alloc::Global;
+use std::alloc::{AllocError, Global};
 use std::collections::LinkedList;
 use std::marker::Model;
 
@@ -34,22 +34,19 @@ pub struct Mine {
     pub added: LinkedList<Added>,
 }
 
-/// A sum, with all that was added to it.
+/// A count, with all that was added to it.
 #[derive(Drop)]
 pub struct Counter {
-    total: u64,
     history: Vec<Added>,
 }
 
 impl Model for Counter {
-    ghost use Rattle.std.specs.Prelude.{◌≡◌, List, sum_by};
+    ghost use Rattle.std.specs.Prelude.{List};
     ghost use Rattle.iq_turnstile.specs.declared.counter.Added.{Added};
 
     ghost Value = { List Added };
 
     ghost view = { λ c. c.history.items };
-
-    ghost invariant = { λ c. c.total ≡ sum_by (λ (e : Added). e.amount) c.history.items };
 }
 
 impl Counter {
@@ -57,7 +54,6 @@ impl Counter {
         ensures { result ≡ [] }
     {
         Counter {
-            total: 0,
             history: Vec::new(alloc),
         }
     }
@@ -69,24 +65,20 @@ impl Counter {
         self.history.as_slice()
     }
 
-    pub fn total(&self) -> u64
-        ensures { result ≡ sum_by (λ e. e.amount) self.now }
+    /// How often was added.
+    pub fn count(&self) -> usize
+        ensures { result ≡ length self.now }
     {
-        self.total
+        self.history.len()
     }
 
-    /// Adds, and says whether it did. It doesn't where memory is missing or the sum wouldn't fit.
-    pub fn add(&mut self, by: u32, amount: u32) -> bool
-        ensures { self.new ≡ grown result (entry by amount) self.old }
+    /// Adds an amount under a name.
+    pub fn add(&mut self, by: u32, amount: u32) -> Result<(), AllocError>
+        ensures ok { OnOk result (self.new ≡ self.old ++ entry by amount ∷ []) }
+        ensures err { OnErr result (self.new ≡ self.old) }
     {
-        let Some(total) = self.total.checked_add(u64::from(amount)) else {
-            return false;
-        };
-        if self.history.push(Added { by, amount }).is_err() {
-            return false;
-        }
-        self.total = total;
-        true
+        self.history.push(Added { by, amount })?;
+        Ok(())
     }
 }
 

@@ -13,7 +13,7 @@ pub struct Adds {
     pub before: Snapshot<Pass<Counter>>,
     pub by: u32,
     pub amount: u32,
-    /// Whether it was added.
+    /// Whether it was added: it wasn't where memory was missing.
     pub done: bool,
     ghost own: { speaks_for (note_or knows_nothing before.value).names by ≡ true },
 }
@@ -40,6 +40,6 @@ impl Act<Counter> for Adds {
     ghost acts = { λ a s b t. t ≡ grown b.done (entry a.by a.amount) s };
 
     fn act(&mut self, state: &mut Counter) {
-        self.done = state.add(self.by, self.amount);
+        self.done = state.add(self.by, self.amount).is_ok();
     }
 }
