@@ -39,5 +39,6 @@ pub trait Act<S: Shared> {
     fn act(&mut self, state: &mut S)
         requires { S.agrees (expects self.old) state.old }
         ensures acts { acts self.old state.old self.new state.new }
-        ensures turn { IsTurn S.agrees S.apart S.may (expects self.old) (after (expects self.old) self.old self.new state.old state.new) state.old state.new };
+        ensures turn { let note = after (expects self.old) self.old self.new state.old state.new in
+            IsTurn S.agrees S.apart S.may (expects self.old) note state.old state.new };
 }

@@ -32,7 +32,8 @@ impl<S: Shared> Turnstile<S> {
         requires expected { notes_of pass.old ≡ A.expects act.old ∷ [] }
         ensures here { IsOf self.now pass.new }
         ensures parts { parts_of pass.new ≡ parts_of pass.old }
-        ensures turned { HasTurned S.agrees S.apart S.may A.acts A.after (A.expects act.old) act.old act.new (notes_of pass.new) }
+        ensures turned { HasTurned S.agrees S.apart S.may A.acts A.after
+            (A.expects act.old) act.old act.new (notes_of pass.new) }
     {
         self.enter(rt, pass);
         let Some(mut state) = self.table.shared.exchange(&mut pass.seat, STATE, None) else {
@@ -84,7 +85,9 @@ impl<S: Shared> Turnstile<S> {
     // Whether the ticket is served, and then the slot is taken.
     fn look(&self, pass: &mut Pass<S>, ticket: u64) -> bool
         requires { IsWaiting self.now pass.old (notes_of pass.old) ticket }
-        ensures found { MatchBool result (IsHolding S.agrees self.now pass.new (notes_of pass.old)) (IsWaiting self.now pass.new (notes_of pass.old) ticket) }
+        ensures found { MatchBool result
+            (IsHolding S.agrees self.now pass.new (notes_of pass.old))
+            (IsWaiting self.now pass.new (notes_of pass.old) ticket) }
         ensures parts { parts_of pass.new ≡ parts_of pass.old }
     {
         self.table.shared.load::<Looks>(&mut pass.seat, SERVED) == ticket

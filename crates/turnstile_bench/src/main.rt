@@ -7,9 +7,8 @@ mod rounds;
 mod tally;
 
 use rounds::count_up;
-use std::env;
-use std::io;
 use std::time::Instant;
+use std::{env, io};
 
 const MOST_THREADS: u32 = 64;
 
@@ -22,7 +21,10 @@ fn main(rt: HostRuntime) -> io::Result<()> {
     let Some(turns) = words.next() else {
         return Ok(());
     };
-    let (Ok(threads), Ok(turns)) = (threads.as_str().parse::<u32>(), turns.as_str().parse::<u32>()) else {
+    let (Ok(threads), Ok(turns)) = (
+        threads.as_str().parse::<u32>(),
+        turns.as_str().parse::<u32>(),
+    ) else {
         return Ok(());
     };
     if threads == 0 || threads > MOST_THREADS {
