@@ -1,6 +1,6 @@
 -- The seat that has all parts finds the state at home.
-use Rattle.std.proofs.Common.{◌≡◌, ◌≢◌, ℕ, zero, suc, ◌+◌, ◌<◌, List, [], ◌∷◌, ◌++◌, length, set, append_assoc, append-nil, All, AllPairs, Option, Some, sym, refl, ap, ◌∙◌, subst, arith}
-use mathlib.Core.Option.{Option as Slot, some, none, some-injective}
+use Rattle.std.proofs.Common.{◌≡◌, ℕ, ◌+◌, List, [], ◌∷◌, ◌++◌, length, set, append_assoc, append-nil, All, AllPairs, Option, Some, sym, refl, ap, ◌∙◌, subst, arith}
+use mathlib.Core.Option.{Option as Slot, some, some-injective}
 use lib.ListN.{get_elem?}
 use Rattle.atomic_table.specs.Table.{State, Me, rest, Seen, Final}
 use Rattle.std.proofs.lemmas.List.Elements.{All-pop}
@@ -9,9 +9,8 @@ use Rattle.atomic_table.specs.declared.shared.Seat.{Seat}
 use Rattle.atomic_table.proofs.Lists.{set_else}
 use Rattle.iq_turnstile.specs.declared.turnstile.Turnstile.{Turnstile}
 use Rattle.iq_turnstile.specs.declared.turnstile.Pass.{Pass}
-use Rattle.iq_turnstile.specs.declared.view.Stage.TheVariants.{Idle}
 use Rattle.iq_turnstile.specs.declared.view.View.{View}
-use Rattle.iq_turnstile.specs.Rule.{HoldsState, IsRuled, view, idle_view}
+use Rattle.iq_turnstile.specs.Rule.{HoldsState, IsRuled, idle_view}
 use Rattle.iq_turnstile.specs.Passes.{IsOf, HasJoined, AllAgree, parts_of, notes_of, sum_of_parts, all_notes}
 use Rattle.iq_turnstile.specs.Steps.{joined, spent}
 use Rattle.iq_turnstile.proofs.Views.{sum_set, sum_snoc, one_below}

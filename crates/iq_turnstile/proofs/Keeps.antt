@@ -1,17 +1,17 @@
 -- Each kind of step keeps the rule.
-use Rattle.std.proofs.Common.{◌≡◌, ◌≢◌, ℕ, zero, suc, ◌+◌, ◌-◌, ◌%◌, ◌^◌, ◌<◌, ◌≤◌, ◌⊎◌, List, [], ◌∷◌, ◌++◌, length, get_or, set, All, AllPairs, Option, Some, sym, refl, ap, ◌∙◌, subst, inl, inr, ⊎_elim, arith}
+use Rattle.std.proofs.Common.{◌≡◌, ◌≢◌, ℕ, suc, ◌+◌, ◌-◌, ◌%◌, ◌^◌, ◌<◌, List, [], ◌∷◌, ◌++◌, get_or, set, All, Option, Some, sym, refl, ap, ◌∙◌, subst, ⊎_elim, arith}
 use mathlib.Core.Option.{Option as Slot, some, none}
 use mathlib.Core.Logic.{dite}
 use native.Mathlib.Decide.{ℕ_discrete}
 use native.Mathlib.Nat.{mod-add-mod}
 use lib.ListN.{get_elem?}
 use Rattle.std.proofs.lemmas.List.Elements.{All-append, All-cons, All-nil}
-use Rattle.atomic_table.specs.Table.{State, Me, step, Act, keeps, takes, gives, Allows, Splits, Joins}
-use Rattle.atomic_table.proofs.Lists.{at_set, set_here, set_else, set_again, at_longer, at_last, one_turn}
-use Rattle.iq_turnstile.specs.declared.view.Stage.TheVariants.{Idle, Waiting, Holding}
+use Rattle.atomic_table.specs.Table.{State, Me, step, keeps, takes, gives, Allows, Splits, Joins}
+use Rattle.atomic_table.proofs.Lists.{at_set, set_here, set_else, set_again, at_longer, one_turn}
+use Rattle.iq_turnstile.specs.declared.view.Stage.TheVariants.{Waiting, Holding}
 use Rattle.iq_turnstile.specs.declared.view.View.{View}
 use Rattle.iq_turnstile.specs.Notes.{IsDivided, IsTurn}
-use Rattle.iq_turnstile.specs.Rule.{HasTicket, HoldsState, busy, FitsStage, FitsSeat, AreApart, IsRuled, view, idle_view}
+use Rattle.iq_turnstile.specs.Rule.{HasTicket, HoldsState, busy, FitsSeat, AreApart, IsRuled, view, idle_view}
 use Rattle.iq_turnstile.specs.Steps.{draws, looks, advances, kept_half, given_half, joined, spent}
 use Rattle.iq_turnstile.proofs.Views.{place, at_end, set_swap, sum_set, sum_snoc, sums_below, pairs_one, pairs_append}
 use Rattle.iq_turnstile.proofs.Seats.{busy_has_part, ticket_below, holder_ticket, after_draw, after_take, after_advance, Pairs, swapped, none_apart, each_set, pairs_set, every, nobody_before}

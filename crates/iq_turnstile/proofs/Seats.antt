@@ -1,15 +1,14 @@
 -- What the rule says of one seat and of two, and how it outlasts a change elsewhere.
-use Rattle.std.proofs.Common.{◌≡◌, ◌≢◌, ℕ, zero, suc, ◌+◌, ◌<◌, ◌≤◌, ◌⊎◌, List, [], ◌∷◌, ◌++◌, set, All, AllPairs, Option, Some, sym, refl, ap, ◌∙◌, subst, inl, inr, ⊎_elim, arith}
-use mathlib.Core.Option.{Option as Slot, some, none, some-injective}
+use Rattle.std.proofs.Common.{◌≡◌, ◌≢◌, ℕ, zero, suc, ◌<◌, ◌≤◌, List, [], set, Option, sym, refl, ap, ◌∙◌, subst, ⊎_elim, arith}
+use mathlib.Core.Option.{Option as Slot, some, some-injective}
 use mathlib.Core.Logic.{dite}
 use native.Mathlib.Decide.{ℕ_discrete}
 use lib.ListN.{get_elem?}
-use Rattle.std.proofs.lemmas.List.Elements.{All-append, All-cons, All-nil}
 use Rattle.atomic_table.proofs.Lists.{at_set, set_else}
 use Rattle.iq_turnstile.specs.declared.view.Stage.{Stage}
 use Rattle.iq_turnstile.specs.declared.view.Stage.TheVariants.{Idle, Waiting, Holding}
 use Rattle.iq_turnstile.specs.declared.view.View.{View}
-use Rattle.iq_turnstile.specs.Rule.{HasTicket, HoldsState, busy, FitsStage, FitsSeat, AreApart, view, idle_view}
+use Rattle.iq_turnstile.specs.Rule.{HasTicket, HoldsState, busy, FitsStage, AreApart, idle_view}
 
 module _ {S : Type 0} where
   pub busy_has_part : (st : Stage S) (p : ℕ) → (p ≡ 0 → st ≡ Idle) → busy st ≤ p

@@ -1,7 +1,7 @@
 -- What each kind of step tells: of the step, the seat before, the number found and the seat after.
 use Rattle.std.specs.Prelude.{◌≡◌, ◌≢◌, ℕ, ◌+◌, ◌-◌, ◌%◌, ◌^◌, List, [], ◌∷◌, ◌++◌, map, All, Option, Some}
 use Rattle.atomic_table.specs.Table.{Me, Step, rest}
-use Rattle.iq_turnstile.specs.declared.view.Stage.TheVariants.{Idle, Waiting, Holding}
+use Rattle.iq_turnstile.specs.declared.view.Stage.TheVariants.{Waiting, Holding}
 use Rattle.iq_turnstile.specs.declared.view.View.{View}
 use Rattle.iq_turnstile.specs.Rule.{view, idle_view}
 

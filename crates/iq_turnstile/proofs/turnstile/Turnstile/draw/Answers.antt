@@ -1,5 +1,5 @@
 use Rattle.iq_turnstile.proofs.Keeps.{draws_allowed}
-use Rattle.std.proofs.Common.{rules, arith}
+use Rattle.std.proofs.Common.{arith}
 use Rattle.iq_turnstile.proofs.turnstile.Turnstile.draw.Goals as goal
 
 pub fetch_add-requires : goal.fetch_add-requires

@@ -1,4 +1,4 @@
-use Rattle.std.proofs.Common.{◌≡◌, List, Some, sym, ap, ◌∙◌, subst, arith}
+use Rattle.std.proofs.Common.{◌≡◌, sym, ap, ◌∙◌, subst, arith}
 use Rattle.iq_turnstile.proofs.Keeps.{joins_allowed}
 use Rattle.iq_turnstile.proofs.Closing.{last_of, joined_first, joined_more, closes}
 use Rattle.iq_turnstile.specs.Passes.{AllAgree}

@@ -1,4 +1,4 @@
-use Rattle.std.proofs.Common.{◌≡◌, ◌+◌, ◌≤◌, drop}
+use Rattle.std.proofs.Common.{◌≡◌, ◌+◌, drop}
 use Rattle.iq_turnstile.specs.Passes.{sum_of_parts}
 use Rattle.iq_turnstile.proofs.turnstile.Turnstile.is_whole.Given as goal
 

@@ -1,5 +1,5 @@
 use Rattle.iq_turnstile.proofs.Keeps.{advances_allowed}
-use Rattle.std.proofs.Common.{rules, arith}
+use Rattle.std.proofs.Common.{arith}
 use Rattle.iq_turnstile.proofs.turnstile.Turnstile.leave.Goals as goal
 
 pub fetch_add-requires : goal.fetch_add-requires

@@ -1,5 +1,5 @@
 use Rattle.iq_turnstile.proofs.Keeps.{looks_allowed}
-use Rattle.std.proofs.Common.{rules, arith}
+use Rattle.std.proofs.Common.{arith}
 use Rattle.iq_turnstile.proofs.turnstile.Turnstile.look.Goals as goal
 
 pub load-requires : goal.load-requires

@@ -1,5 +1,5 @@
 use Rattle.iq_turnstile.proofs.Keeps.{splits_allowed}
-use Rattle.std.proofs.Common.{rules, arith}
+use Rattle.std.proofs.Common.{arith}
 use Rattle.iq_turnstile.proofs.turnstile.Turnstile.split.Goals as goal
 
 pub split_seat-seat-requires : goal.split_seat-seat-requires

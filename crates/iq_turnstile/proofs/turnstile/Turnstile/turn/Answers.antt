@@ -1,4 +1,4 @@
-use Rattle.std.proofs.Common.{rules, ◌≡◌, ℕ, [], ◌∷◌, List, Some, sym, refl, ap, ◌∙◌, subst}
+use Rattle.std.proofs.Common.{Some}
 use Rattle.iq_turnstile.proofs.Closing.{slot_out}
 use Rattle.iq_turnstile.proofs.turnstile.Turnstile.turn.Goals as goal
 
