@@ -14,6 +14,7 @@ speaks_for Nobody x = false
 speaks_for (One a) x = nat_eq a x
 speaks_for (From a) x = nat_le a x
 
+-- an addition under this name
 abbrev pub entry : ℕ → ℕ → Added
 entry by amount = record { by = by; amount = amount }
 
@@ -25,9 +26,11 @@ added_by names history = filter (λ (e : Added). speaks_for names e.by) history
 abbrev pub mine : Names → List Added → Mine
 mine names history = record { names = names; added = added_by names history }
 
+-- the note of whoever brings the counter: every name is its own
 abbrev pub knows_all : List Added → Mine
 knows_all history = mine (From 0) history
 
+-- the note of a pass with no name
 abbrev pub knows_nothing : Mine
 knows_nothing = record { names = Nobody; added = [] }
 
@@ -37,22 +40,25 @@ rest_of Nobody = Nobody
 rest_of (One a) = Nobody
 rest_of (From a) = From (suc a)
 
+-- the least of the names
 abbrev pub least_of : Names → Names
 least_of Nobody = Nobody
 least_of (One a) = One a
 least_of (From a) = One a
 
--- what stays of a note that is divided, and what the new pass gets
+-- what stays of a note that is divided
 abbrev pub left_note : Mine → Mine
 left_note n = mine (rest_of n.names) n.added
 
+-- what the new pass gets of it
 abbrev pub right_note : Mine → Mine
 right_note n = mine (least_of n.names) n.added
 
--- the note and the history after an attempt to add e
+-- the note after an attempt to add e
 abbrev pub noted : Bool → Added → Mine → Mine
 noted done e n = record { names = n.names; added = if done then n.added ++ e ∷ [] else n.added }
 
+-- the history after it
 abbrev pub grown : Bool → Added → List Added → List Added
 grown done e history = if done then history ++ e ∷ [] else history
 
@@ -60,6 +66,7 @@ grown done e history = if done then history ++ e ∷ [] else history
 abbrev pub Knows : Mine → List Added → Type 0
 Knows n history = added_by n.names history ≡ n.added
 
+-- no name is spoken for by both
 abbrev pub ShareNoName : Mine → Mine → Type 0
 ShareNoName n m = (x : ℕ) → speaks_for n.names x ≡ true → speaks_for m.names x ≡ true → ⊥
 

@@ -14,6 +14,7 @@ module _ {S : Type 0} where
   HasTicket t (Waiting u) = u ≡ t
   HasTicket t (Holding u s) = u ≡ t
 
+  -- the seat has the slot
   abbrev pub HoldsState : Stage S → Type 0
   HoldsState Idle = ⊥
   HoldsState (Waiting t) = ⊥
@@ -32,9 +33,11 @@ module _ {S : Type 0} where
   FitsStage drawn served state homes (Holding t s) = (t ≡ served) × (served < drawn) × (s ≡ state) × (homes ≡ none ∷ [])
 
 module _ {S N : Type 0} where
+  -- a view of these parts
   abbrev pub view : Stage S → ℕ → List N → View S N
   view stage parts notes = record { stage = stage; parts = parts; notes = notes }
 
+  -- the view of a seat that takes no turn
   abbrev pub idle_view : ℕ → List N → View S N
   idle_view = view Idle
 
