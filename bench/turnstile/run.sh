@@ -7,7 +7,7 @@ turns=${TURNS:-200000}
 runs=${RUNS:-5}
 work=$(mktemp -d)
 trap 'rm -rf "$work"' EXIT
-(cd crates/turnstile_bench && rt run >/dev/null 2>&1)
+(cd crates/turnstile_bench && rt run) >"$work/log" 2>&1 || { cat "$work/log"; exit 1; }
 rustc -O -o "$work/mutex" bench/turnstile/mutex.rs
 
 # The median of turns per second of the command, at so many turns in all.
