@@ -30,6 +30,34 @@ pub fn width(kind: Kind) -> usize
     }
 }
 
+/// Whether a column of the kind may hold the value: NULL, a number of 32 or of 64 bits with a sign, or a text that isn't
+/// too long.
+pub fn is_of(kind: Kind, value: &Value) -> bool
+    ensures { IsTrue result ↔ IsOf kind value.now }
+{
+    match (kind, value) {
+        (_, Value::Null) => true,
+        (Kind::Int, Value::Int(number)) => fits_int(*number),
+        (Kind::Big, Value::Int(number)) => fits_big(*number),
+        (Kind::Varchar(longest), Value::Text(text)) => text.as_str().len() <= longest as usize,
+        _ => false,
+    }
+}
+
+// Each number does: reading it is what tells its range.
+fn fits_big(number: i64) -> bool
+    ensures { IsTrue result ↔ FitsSigned w64 number }
+{
+    let _number = number;
+    true
+}
+
+fn fits_int(number: i64) -> bool
+    ensures { IsTrue result ↔ FitsSigned w32 number }
+{
+    i64::from(i32::MIN) <= number && number <= i64::from(i32::MAX)
+}
+
 /// Writes the cell of a value. The slice has the width of the kind.
 pub fn cell_put(kind: Kind, value: &Value, into: &mut [u8])
     requires len { length into.old ≡ width kind }

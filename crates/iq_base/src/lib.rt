@@ -23,7 +23,7 @@ mod texts;
 mod values;
 
 pub use answers::{Answer, Out, Versions};
-pub use cells::{BadCell, cell_get, cell_put, width};
+pub use cells::{BadCell, cell_get, cell_put, is_of, width};
 pub use lists::Listed;
 pub use locks::Locks;
 pub use memory::NoMemory;
