@@ -135,7 +135,7 @@ mod tests {
         page[7] = 9;
         sink.set_page(object, 0, &page)?;
         sink.page(object, 0, &mut page)?;
-        Ok(page[7] + page[8])
+        Ok(page[7].wrapping_add(page[8]))
     }
 
     #[test]
