@@ -15,4 +15,5 @@ mod rows;
 mod table;
 
 pub use limits::row_limit;
+pub use rows::are_rows_of;
 pub use table::Table;
