@@ -13,6 +13,8 @@ mod pages;
 mod read;
 mod rows;
 mod table;
+#[cfg(test)]
+mod tests;
 
 pub use limits::row_limit;
 pub use rows::are_rows_of;
