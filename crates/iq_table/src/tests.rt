@@ -27,7 +27,7 @@ fn table(alloc: Global) -> Result<Table, Fail> {
 
 // What row i has in a column, made of its number alone.
 fn value(i: usize, c: usize) -> Result<Value, Fail> {
-    if (i + c) % 5 == 0 {
+    if i % 5 == c {
         return Ok(Value::Null);
     }
     if c == 1 {
