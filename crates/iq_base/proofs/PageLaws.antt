@@ -1,5 +1,5 @@
 -- What two calls on pages, one after the other, have done together.
-use Rattle.std.proofs.Common.{◌≡◌, ◌≤◌, ℕ, ◌+◌, Option, Some, None, arith}
+use Rattle.std.proofs.Common.{◌≤◌, ℕ, ◌+◌, Option, Some, None, arith}
 use Rattle.iq_base.specs.Pages.{HasRisen, ReadsMore}
 
 -- so many more pages were read, and then so many more

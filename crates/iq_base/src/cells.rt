@@ -30,6 +30,34 @@ pub fn width(kind: Kind) -> usize
     }
 }
 
+/// Whether a column of the kind may hold the value: NULL, a number of 32 or of 64 bits with a sign, or a text that isn't
+/// too long.
+pub fn is_of(kind: Kind, value: &Value) -> bool
+    ensures { IsTrue result ↔ IsOf kind value.now }
+{
+    match (kind, value) {
+        (_, Value::Null) => true,
+        (Kind::Int, Value::Int(number)) => fits_int(*number),
+        (Kind::Big, Value::Int(number)) => fits_big(*number),
+        (Kind::Varchar(longest), Value::Text(text)) => text.as_str().len() <= longest as usize,
+        _ => false,
+    }
+}
+
+// Each number does: reading it is what tells its range.
+fn fits_big(number: i64) -> bool
+    ensures { IsTrue result ↔ FitsSigned w64 number }
+{
+    let _number = number;
+    true
+}
+
+fn fits_int(number: i64) -> bool
+    ensures { IsTrue result ↔ FitsSigned w32 number }
+{
+    i64::from(i32::MIN) <= number && number <= i64::from(i32::MAX)
+}
+
 /// Writes the cell of a value. The slice has the width of the kind.
 pub fn cell_put(kind: Kind, value: &Value, into: &mut [u8])
     requires len { length into.old ≡ width kind }
@@ -126,4 +154,58 @@ fn text_get(from: &[u8]) -> Result<Text, BadCell>
     }
     let text = str::from_utf8(front).map_err(|_| BadCell)?;
     Text::of(text).ok_or(BadCell)
+}
+
+#[cfg(test)]
+mod tests {
+    use super::*;
+    use std::test::Fail;
+
+    fn text(text: &str) -> Result<Value, Fail> {
+        Ok(Value::Text(Text::of(text).ok_or("too long")?))
+    }
+
+    #[test]
+    fn cells_have_the_bytes_of_the_format(rt: HostRuntime) -> Result<(), Fail> {
+        let rows: [(Kind, Value, &[u8]); 7] = [
+            (Kind::Int, Value::Int(5), &[1, 5, 0, 0, 0]),
+            (Kind::Int, Value::Int(-2), &[1, 254, 255, 255, 255]),
+            (Kind::Int, Value::Null, &[0, 0, 0, 0, 0]),
+            (
+                Kind::Big,
+                Value::Int(-1),
+                &[1, 255, 255, 255, 255, 255, 255, 255, 255],
+            ),
+            (Kind::Big, Value::Int(258), &[1, 2, 1, 0, 0, 0, 0, 0, 0]),
+            (Kind::Varchar(4), text("né")?, &[1, 3, 110, 195, 169, 0]),
+            (Kind::Varchar(0), Value::Null, &[0, 0]),
+        ];
+        for (kind, value, bytes) in &rows {
+            let mut buffer = [9; 9];
+            let size = width(*kind);
+            assert!(rt; size <= 9 && is_of(*kind, value), "{value:?}");
+            let cell = &mut buffer[..size];
+            cell_put(*kind, value, cell);
+            assert_eq!(rt; &*cell, *bytes, "{value:?}");
+            assert_eq!(rt; cell_get(*kind, cell), Ok(value.again()), "{value:?}");
+        }
+        Ok(())
+    }
+
+    #[test]
+    fn other_bytes_are_no_cell(rt: HostRuntime) {
+        let rows: [(Kind, &[u8]); 7] = [
+            (Kind::Int, &[2, 0, 0, 0, 0]),
+            (Kind::Int, &[0, 0, 0, 0, 1]),
+            (Kind::Big, &[0, 1, 0, 0, 0, 0, 0, 0, 0]),
+            (Kind::Varchar(2), &[1, 3, 97, 97]),
+            (Kind::Varchar(2), &[1, 1, 97, 97]),
+            (Kind::Varchar(2), &[1, 1, 255, 0]),
+            (Kind::Varchar(2), &[0, 1, 0, 0]),
+        ];
+        for (kind, bytes) in &rows {
+            assert_eq!(rt; bytes.len(), width(*kind));
+            assert_eq!(rt; cell_get(*kind, bytes), Err(BadCell), "{bytes:?}");
+        }
+    }
 }

@@ -25,7 +25,7 @@ mod texts;
 mod values;
 
 pub use answers::{Answer, Out, Versions};
-pub use cells::{BadCell, cell_get, cell_put, width};
+pub use cells::{BadCell, cell_get, cell_put, is_of, width};
 pub use letters::Letters;
 pub use limits::row_limit;
 pub use lists::Listed;

@@ -39,7 +39,8 @@ pub fn fill(kind: Kind, rows: &[Row], column: usize, page: &mut Page, first: usi
     }
 }
 
-fn value_of(row: &Row, column: usize) -> &Value
+/// The value that a row has in a column.
+pub fn value_of(row: &Row, column: usize) -> &Value
     requires { column < length row.now }
     ensures { result.now ≡ value_at column row.now }
 {
