@@ -1,0 +1,4 @@
+pub mod Committed
+pub mod LineSteps
+pub mod LineRuns
+pub mod BuiltWrites
