@@ -17,9 +17,13 @@ reserved = codes "alter" ∷ codes "and" ∷ codes "apply" ∷ codes "asc" ∷ c
     ∷ codes "to" ∷ codes "transaction" ∷ codes "update" ∷ codes "values" ∷ codes "varchar" ∷ codes "versions" ∷ codes "where"
     ∷ codes "writer" ∷ []
 
+-- whether the word is one of these
+abbrev pub is_among : List (List ℕ) → List ℕ → Bool
+is_among words word = list_any (λ (other : List ℕ). pointwise nat_eq other word) words
+
 -- whether a word in lower case is reserved
 unfoldable pub is_reserved : List ℕ → Bool
-is_reserved word = list_any (λ (r : List ℕ). pointwise nat_eq r word) reserved
+is_reserved = is_among reserved
 
 -- a byte that a word in lower case begins with: a letter or _
 abbrev pub begins_word : ℕ → Bool

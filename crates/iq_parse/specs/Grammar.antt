@@ -75,3 +75,7 @@ pub record IsStatementOf (text : List ℕ) (statement : Statement) : Type 0 wher
 -- no statement is spelled by the text
 abbrev pub IsOff : List ℕ → Type 0
 IsOff text = (statement : Statement) → IsStatementOf text statement → ⊥
+
+-- the text spells one statement at most
+abbrev pub SpellsOne : List ℕ → Type 0
+SpellsOne text = (s t : Statement) → IsStatementOf text s → IsStatementOf text t → s ≡ t

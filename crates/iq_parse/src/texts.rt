@@ -2,7 +2,7 @@
 ghost use Rattle.std.specs.Prelude.{◌≡◌, Ok, Err, Result, List, ℕ, IfOk};
 ghost use Rattle.iq_ast.specs.Built.{IsBuilt};
 ghost use Rattle.iq_ast.specs.declared.statements.Statement.{Statement as TheStatement};
-ghost use Rattle.iq_parse.specs.Grammar.{IsStatementOf, IsOff};
+ghost use Rattle.iq_parse.specs.Grammar.{IsStatementOf, IsOff, SpellsOne};
 ghost use Rattle.iq_parse.specs.Reading as spec;
 ghost use Rattle.iq_parse.specs.Reading.{Gives};
 
@@ -39,5 +39,5 @@ pub fn parse(alloc: Global, text: &[u8]) -> Result<Statement, ParseFault>
 
 /// A text spells one statement at most.
 pub fn one_statement()
-    ensures { (text : List ℕ) (s t : TheStatement) → IsStatementOf text s → IsStatementOf text t → s ≡ t }
+    ensures { (text : List ℕ) → SpellsOne text }
 {}

@@ -114,7 +114,7 @@ fn keyword(word: &[u8]) -> Option<Mark>
 }
 
 fn is_among(mut list: &[&[u8]], word: &[u8]) -> bool
-    ensures { result ≡ list_any (λ (r : List ℕ). pointwise nat_eq r word.now) (map (λ r. r.now) list.entry.now) }
+    ensures { result ≡ words.is_among (map (λ r. r.now) list.entry.now) word.now }
 {
     'words: while let [first, rest @ ..] = list {
         if *first == word {

@@ -1,6 +1,6 @@
 -- Reading the lines of a script one by one, and the laws about scripts and faults.
 use Rattle.std.proofs.Common.{◌≡◌, ℕ, ◌+◌, ◌<◌, ◌≤◌, Bool, true, false, List, [], ◌∷◌, ◌++◌, length, refl, sym, ap, subst, ◌∙◌, append_assoc, ⊎_elim, ◌⊎◌, arith, inl, inr}
-use Rattle.std.specs.Prelude.{filter}
+use Rattle.std.specs.Prelude.{MatchBool, filter}
 use Rattle.std.specs.List.{AllZip, AllByRecursion}
 use Rattle.std.proofs.lemmas.Bool.{cases_Bool}
 use Rattle.std.proofs.lemmas.List.{length-append}
@@ -16,16 +16,12 @@ use Rattle.iq_parse.proofs.Steps.{some_is}
 use Rattle.iq_parse.proofs.StatementLaws.{read_only}
 use Rattle.iq_script.specs.declared.faults.ScriptRefusal.{ScriptRefusal}
 use Rattle.iq_script.specs.declared.faults.ScriptRefusal.TheVariants.{ScriptFault, NoMemory}
-use Rattle.iq_script.specs.Lines.{Numbered, pieces_of, without_cr, numbered, is_doing, doing_lines}
-use Rattle.iq_script.specs.Scripts.{IsDeedOf, IsLineOf, IsScriptOf, IsOfGrammar, IsFirstFault, IsCause, Takes, IsRefused, IsLineCause}
+use Rattle.iq_script.specs.Lines.{Numbered, line_of, pieces_of, without_cr, numbered, is_doing, doing_lines}
+use Rattle.iq_script.specs.Scripts.{IsDeedOf, IsLineOf, IsScriptOf, IsOfGrammar, IsFirstFault, IsCause, IsPut, Takes, IsRefused, IsLineCause}
 
 -- the lines that do something among pieces that are numbered from n
 abbrev pub doing_from : ℕ → List (List ℕ) → List Numbered
 doing_from n pieces = filter (λ (line : Numbered). is_doing line.text) (numbered n pieces)
-
--- a line with its number
-abbrev pub line_of : ℕ → List ℕ → Numbered
-line_of n text = record { number = n; text = text }
 
 -- these lines have been read, and the rest of the bytes begins with the line after this number
 pub record IsSoFar (bytes rest : List ℕ) (number : ℕ) (lines : List Line) : Type 0 where
@@ -85,7 +81,7 @@ first_idle : (rest behind piece : List ℕ) (n : ℕ) → pieces_of rest ≡ pie
 first_idle rest behind piece n cut h = ap (doing_from n) cut ∙ rw h refl
 
 turn : (bytes rest behind piece : List ℕ) (number : ℕ) (old new : List Line) (doing : Bool) → is_doing (without_cr piece) ≡ doing
-    → pieces_of rest ≡ piece ∷ pieces_of behind → length behind < length rest → Takes doing (line_of (number + 1) (without_cr piece)) old new
+    → pieces_of rest ≡ piece ∷ pieces_of behind → length behind < length rest → MatchBool doing (IsPut (line_of (number + 1) (without_cr piece)) old new) (new ≡ old)
     → IsSoFar bytes rest number old → IsSoFar bytes behind (number + 1) new
 turn bytes rest behind piece number old new false h cut less is so_far =
     let left : number + length rest ≤ length bytes = so_far.left in
@@ -109,9 +105,9 @@ turn bytes rest behind piece number old new true h cut less is so_far =
     }
 
 pub goes_on : (bytes rest behind piece text : List ℕ) (number : ℕ) (old new : List Line) → text ≡ without_cr piece → pieces_of rest ≡ piece ∷ pieces_of behind
-    → length behind < length rest → Takes (is_doing text) (line_of (number + 1) text) old new → IsSoFar bytes rest number old → IsSoFar bytes behind (number + 1) new
+    → length behind < length rest → Takes (line_of (number + 1) text) old new → IsSoFar bytes rest number old → IsSoFar bytes behind (number + 1) new
 goes_on bytes rest behind piece text number old new e cut less is so_far =
-    turn bytes rest behind piece number old new (is_doing (without_cr piece)) refl cut less (subst (λ (t : List ℕ). Takes (is_doing t) (line_of (number + 1) t) old new) e is) so_far
+    turn bytes rest behind piece number old new (is_doing (without_cr piece)) refl cut less (subst (λ (t : List ℕ). Takes (line_of (number + 1) t) old new) e is) so_far
 
 fault_is : (bytes rest behind piece : List ℕ) (number : ℕ) (old : List Line) → pieces_of rest ≡ piece ∷ pieces_of behind
     → IsRefused (line_of (number + 1) (without_cr piece)) old → IsSoFar bytes rest number old → IsFirstFault bytes (number + 1)

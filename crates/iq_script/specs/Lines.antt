@@ -22,10 +22,14 @@ pub record Numbered : Type 0 where
   pub number : ℕ
   pub text : List ℕ
 
+-- the line with this number and these bytes
+abbrev pub line_of : ℕ → List ℕ → Numbered
+line_of number text = record { number = number; text = text }
+
 -- the pieces as lines, numbered from n on
 abbrev pub numbered : ℕ → List (List ℕ) → List Numbered
 numbered n [] = []
-numbered n (piece ∷ pieces) = record { number = n; text = without_cr piece } ∷ numbered (n + 1) pieces
+numbered n (piece ∷ pieces) = line_of n (without_cr piece) ∷ numbered (n + 1) pieces
 
 -- the lines of a script, numbered from 1
 abbrev pub lines_of : List ℕ → List Numbered

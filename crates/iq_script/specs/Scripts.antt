@@ -1,5 +1,5 @@
 -- Which script some bytes are, and which line is their first fault.
-use Rattle.std.specs.Prelude.{◌≡◌, ◌<◌, ◌≤◌, ℕ, Bool, true, false, List, [], ◌∷◌, ◌++◌, length, Some, ◌⊎◌, ⊤}
+use Rattle.std.specs.Prelude.{◌≡◌, ◌<◌, ◌≤◌, ℕ, true, MatchBool, List, [], ◌∷◌, ◌++◌, length, Some, ◌⊎◌, ⊤}
 use Rattle.std.specs.List.{AllZip, AllByRecursion}
 use Rattle.iq_ast.specs.declared.statements.Statement.{Statement as TheStatement}
 use Rattle.iq_model.specs.declared.scripts.Deed.{Deed}
@@ -8,7 +8,7 @@ use Rattle.iq_model.specs.declared.scripts.Line.{Line}
 use Rattle.iq_model.specs.declared.scripts.Script.{Script}
 use Rattle.iq_model.specs.Scripts.{the_node, the_session}
 use Rattle.iq_parse.specs.Grammar.{IsStatementOf, IsOff}
-use Rattle.iq_script.specs.Lines.{Numbered, is_doing, doing_lines}
+use Rattle.iq_script.specs.Lines.{Numbered, line_of, is_doing, doing_lines}
 use Rattle.iq_script.specs.declared.faults.LineFault.TheVariants.{Unbuilt}
 use Rattle.iq_script.specs.declared.faults.ScriptRefusal.{ScriptRefusal}
 use Rattle.iq_script.specs.declared.faults.ScriptRefusal.TheVariants.{ScriptFault, NoMemory}
@@ -45,7 +45,7 @@ pub record IsFirstFault (bytes : List ℕ) (number : ℕ) : Type 0 where
   pub before : List Numbered
   pub text : List ℕ
   pub behind : List Numbered
-  pub place : doing_lines bytes ≡ before ++ record { number = number; text = text } ∷ behind
+  pub place : doing_lines bytes ≡ before ++ line_of number text ∷ behind
   pub good : AllByRecursion IsOfGrammar before
   pub few : length before ≤ 64
   pub fault : (length before ≡ 64) ⊎ IsOff text
@@ -54,6 +54,18 @@ pub record IsFirstFault (bytes : List ℕ) (number : ℕ) : Type 0 where
 abbrev pub IsCause : List ℕ → ScriptRefusal → Type 0
 IsCause bytes (ScriptFault line cause) = IsFirstFault bytes line × (cause ≡ Unbuilt)
 IsCause bytes NoMemory = ⊤
+
+-- the bytes are one script at most
+abbrev pub HasOneScript : List ℕ → Type 0
+HasOneScript bytes = (a b : Script) → IsScriptOf bytes a → IsScriptOf bytes b → a ≡ b
+
+-- the bytes have one first fault at most
+abbrev pub HasOneFault : List ℕ → Type 0
+HasOneFault bytes = (a b : ℕ) → IsFirstFault bytes a → IsFirstFault bytes b → a ≡ b
+
+-- the bytes aren't both a script and at fault
+abbrev pub IsNotBoth : List ℕ → Type 0
+IsNotBoth bytes = (script : Script) (line : ℕ) → IsScriptOf bytes script → IsFirstFault bytes line → ⊥
 
 -- ---- one line
 
@@ -65,9 +77,8 @@ pub record IsPut (from : Numbered) (old new : List Line) : Type 0 where
   pub few : length old < 64
 
 -- a line that does something is put at the end, and any other changes nothing
-abbrev pub Takes : Bool → Numbered → List Line → List Line → Type 0
-Takes true from old new = IsPut from old new
-Takes false from old new = new ≡ old
+abbrev pub Takes : Numbered → List Line → List Line → Type 0
+Takes from old new = MatchBool (is_doing from.text) (IsPut from old new) (new ≡ old)
 
 -- a line behind these is refused: it does something, and is the 65th that does or spells no statement
 pub record IsRefused (from : Numbered) (old : List Line) : Type 0 where

@@ -1,7 +1,7 @@
 //! Scripts, read line by line.
 ghost use Rattle.std.specs.Prelude.{◌≡◌, ◌≤◌, true, [], ◌∷◌, IfOk, IfErr, OnOk, length};
 ghost use Rattle.iq_model.specs.Scripts.{IsRunnable, the_node, the_session};
-ghost use Rattle.iq_script.specs.Lines.{is_doing};
+ghost use Rattle.iq_script.specs.Lines.{line_of, is_doing};
 ghost use Rattle.iq_script.specs.Scripts.{AreLinesOf, IsScriptOf, IsCause, IsPut, Takes, IsLineCause, IsDeedOf, IsDeedCause};
 
 use crate::faults::{LineFault, ScriptRefusal};
@@ -44,8 +44,8 @@ fn put_line(
 ) -> Result<(), ScriptRefusal>
     requires few { length lines.old.items ≤ 64 }
     requires doing { is_doing text.now ≡ true }
-    ensures ok { OnOk result (IsPut (record { number = number; text = text.now }) lines.old.items lines.new.items) }
-    ensures fault { IfErr result (IsLineCause (record { number = number; text = text.now }) lines.old.items) }
+    ensures ok { OnOk result (IsPut (line_of number text.now) lines.old.items lines.new.items) }
+    ensures fault { IfErr result (IsLineCause (line_of number text.now) lines.old.items) }
 {
     if lines.len() == MOST_LINES {
         return Err(fault(number));
@@ -67,8 +67,8 @@ fn take_line(
     text: &[u8],
 ) -> Result<(), ScriptRefusal>
     requires { length lines.old.items ≤ 64 }
-    ensures ok { OnOk result (Takes (is_doing text.now) (record { number = number; text = text.now }) lines.old.items lines.new.items) }
-    ensures fault { IfErr result (IsLineCause (record { number = number; text = text.now }) lines.old.items) }
+    ensures ok { OnOk result (Takes (line_of number text.now) lines.old.items lines.new.items) }
+    ensures fault { IfErr result (IsLineCause (line_of number text.now) lines.old.items) }
 {
     if is_doing(text) {
         return put_line(alloc, lines, number, text);
