@@ -12,8 +12,9 @@ use std::{env, io};
 const NO_MEMORY: u8 = 8;
 
 fn main(rt: HostRuntime) -> ExitCode {
-    // Arguments that aren't UTF-8 are no words of the grammar.
-    let words = words_of(&rt).unwrap_or(Vec::new(rt.alloc()));
+    let Ok(words) = words_of(&rt) else {
+        return ExitCode::from(NO_MEMORY);
+    };
     let Ok(path) = path_of(rt.alloc(), words.as_slice()) else {
         return ExitCode::from(NO_MEMORY);
     };
@@ -33,13 +34,19 @@ fn main(rt: HostRuntime) -> ExitCode {
     ExitCode::from(ended.status)
 }
 
-/// The words behind the program's name.
-fn words_of<R: Env + AllocGlobal>(rt: &R) -> io::Result<Vec<String>> {
+/// The words behind the program's name; none where one isn't UTF-8, and so no word of the grammar.
+fn words_of<R: Env + AllocGlobal>(rt: &R) -> Result<Vec<String>, AllocError> {
     let mut words = Vec::new(rt.alloc());
-    for word in env::args(rt)?.skip(1) {
-        words.push(word)?;
+    match env::args(rt) {
+        Ok(args) => {
+            for word in args.skip(1) {
+                words.push(word)?;
+            }
+            Ok(words)
+        }
+        Err(error) if error.kind() == io::ErrorKind::OutOfMemory => Err(AllocError),
+        Err(_) => Ok(words),
     }
-    Ok(words)
 }
 
 /// The store's path: the first word.

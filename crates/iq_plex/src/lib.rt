@@ -9,6 +9,8 @@ mod plex;
 mod queries;
 mod stored;
 mod tables;
+#[cfg(test)]
+mod tests;
 mod writes;
 
 pub use plex::Plex;

@@ -36,7 +36,7 @@ pub fn write(alloc: Global, tables: &mut Vec<Stored>, write: &Write) -> Result<(
 }
 
 /// Puts a table without rows among the tables, in the order of names.
-fn create(
+pub(crate) fn create(
     alloc: Global,
     tables: &mut Vec<Stored>,
     name: &Name,
@@ -81,7 +81,7 @@ fn copied_columns(alloc: Global, columns: &[Column]) -> Result<Listed<Column>, N
 }
 
 /// Puts rows into the table of a name.
-fn insert(tables: &mut Vec<Stored>, name: &Name, rows: &[Row]) -> Result<(), Refusal>
+pub(crate) fn insert(tables: &mut Vec<Stored>, name: &Name, rows: &[Row]) -> Result<(), Refusal>
     requires { length rows.now ≤ 16777216 }
     ensures ok { OnOk result ((db : Database) → StandFor tables.old.items db → (first_refusal (insert_checks name.now (table_of name.now db) rows.now ++ room_check (table_of name.now db) (length rows.now)) ≡ None) × StandFor tables.new.items (inserted (table_of name.now db) rows.now db)) }
     ensures err { IfErr result (λ cause. (db : Database) → StandFor tables.old.items db → ((cause ≡ Refusal.NoMemory) ⊎ (first_refusal (insert_checks name.now (table_of name.now db) rows.now ++ room_check (table_of name.now db) (length rows.now)) ≡ Some cause)) × StandFor tables.new.items db) }

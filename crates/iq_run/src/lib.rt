@@ -7,6 +7,8 @@
 
 mod ends;
 mod lines;
+#[cfg(test)]
+mod plain_tests;
 mod reports;
 mod runs;
 #[cfg(test)]

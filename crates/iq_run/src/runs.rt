@@ -78,7 +78,11 @@ fn no_blocks() -> Census
 }
 
 /// Runs lines in their order. The room for their replies is taken first.
-fn run_lines(alloc: Global, plex: &mut Plex, lines: &[Line]) -> Result<Vec<Reply>, NoMemory>
+pub(crate) fn run_lines(
+    alloc: Global,
+    plex: &mut Plex,
+    lines: &[Line],
+) -> Result<Vec<Reply>, NoMemory>
     requires at { IsAt plex.old idle fresh lines.now }
     requires runnable { AllByRecursion IsRunnableLine lines.now }
     ensures { IfOk result (λ rs. RunsLines plex.old [] rs.items plex.new) }

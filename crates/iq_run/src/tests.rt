@@ -1,6 +1,8 @@
 //! Whole runs over streams in memory: what is printed, where and with which status.
 use crate::multiplex;
-use iq_outside::{MemorySink, MemorySource, OpenGate, Sink, Source, SureDevice, SureSink, SureSource};
+use iq_outside::{
+    MemorySink, MemorySource, OpenGate, Sink, Source, SureDevice, SureSink, SureSource,
+};
 use std::alloc::Global;
 use std::process::Abort;
 use std::sync::Wait;
@@ -164,7 +166,10 @@ fn other_words_are_a_usage_fault(rt: HostRuntime) -> Result<(), Fail> {
         let (status, err) = run(&rt, row, &mut source, &mut sink)?;
         assert_eq!(rt; status, 2, "{row:?}");
         assert!(rt; sink.written().is_empty(), "{row:?}");
-        assert!(rt; err.written().starts_with(b"usage: iqmux STORE "), "{row:?}");
+        assert!(rt;
+            err.written().starts_with(b"usage: iqmux STORE "),
+            "{row:?}"
+        );
     }
     Ok(())
 }

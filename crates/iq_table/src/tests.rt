@@ -1,7 +1,7 @@
 use crate::{Table, are_rows_of};
 use iq_base::{
-    Column, Kind, Listed, MemoryPages, Name, PageFault, PageSink, Refusal, Row, Schema, Text, Value,
-    row_limit,
+    Column, Kind, Listed, MemoryPages, Name, PageFault, PageSink, Refusal, Row, Schema, Text,
+    Value, row_limit,
 };
 use std::alloc::Global;
 use std::process::Abort;
