@@ -39,8 +39,8 @@ fn the_catalog_is_full_at_64_tables(rt: HostRuntime) -> Result<(), Fail> {
     let columns = columns()?;
     let mut tables = Vec::new(alloc);
     // From the last name to the first, so that each new table stands before all others.
-    for i in 0..64 {
-        let text = format!(in alloc; "t{}", 99 - i)?;
+    for i in (36..100).rev() {
+        let text = format!(in alloc; "t{i}")?;
         let name = name(text.as_str())?;
         assert!(rt; check_create(tables.as_slice(), &name).is_none());
         assert_eq!(rt; before(tables.as_slice(), &name), 0);
