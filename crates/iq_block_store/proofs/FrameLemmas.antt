@@ -1,11 +1,11 @@
 -- A header reads as it was written.
-use Rattle.std.specs.Prelude.{◌≡◌, ◌⊎◌, ℕ, ◌+◌, ◌*◌, ◌^◌, ◌<◌, ◌≤◌, Bool, true, false, ◌&&◌, ◌||◌, List, ◌++◌, length, drop, nat_eq}
-use Rattle.std.proofs.Common.{refl, sym, ap, ◌∙◌, inl, inr, arith, lit<, append_assoc, length-append}
+use Rattle.std.specs.Prelude.{◌≡◌, ◌⊎◌, ℕ, ◌+◌, ◌^◌, ◌<◌, Bool, true, false, ◌||◌, List, ◌++◌, length, drop, nat_eq}
+use Rattle.std.proofs.Common.{refl, ap, ◌∙◌, inl, inr, arith, lit<, append_assoc, length-append}
 use Rattle.std.proofs.Math.Seq.{drop-append-add}
 use Rattle.std.proofs.lemmas.Bool.{eq-eqb}
-use Rattle.byteorder.specs.Endian.{little_number, little_bytes}
+use Rattle.byteorder.specs.Endian.{little_number}
 use Rattle.byteorder.specs.Numbers.{little_number-reads_back, length-bytes_low_first}
-use Rattle.iq_block_store.specs.Frames.{number_at, bytes_of, mark, map_kind, has_header, header, framed}
+use Rattle.iq_block_store.specs.Frames.{number_at, bytes_of, mark, map_kind, has_header, header, framed, payload_of}
 
 pub length-bytes_of : (x : ℕ) → length (bytes_of x) ≡ 4
 unfolding bytes_of
@@ -60,7 +60,7 @@ framed_at kind at level payload fits =
     ∙ number_at-append (bytes_of kind) _ 4 0 (length-bytes_of kind)
     ∙ number_at-bytes_of at _ fits
 
-framed_level : (kind at level : ℕ) (payload : List ℕ) → level < 2 ^ 32 → number_at (framed kind at level payload) 12 ≡ level
+pub framed_level : (kind at level : ℕ) (payload : List ℕ) → level < 2 ^ 32 → number_at (framed kind at level payload) 12 ≡ level
 framed_level kind at level payload fits =
     ap (λ (t : List ℕ). number_at t 12) (parts kind at level payload)
     ∙ number_at-append (bytes_of mark) _ 4 8 (length-bytes_of mark)
@@ -95,3 +95,11 @@ has_header-framed kind at level payload kind_fits at_fits level_fits level_is =
 -- the numbers of the payload
 pub number_at-framed : (kind at level : ℕ) (payload : List ℕ) (i : ℕ) → number_at (framed kind at level payload) (16 + i) ≡ number_at payload i
 number_at-framed kind at level payload i = number_at-append (header kind at level) payload 16 i (length-header kind at level)
+
+-- what was put in is behind the header
+pub payload_of-framed : (kind at level : ℕ) (payload : List ℕ) → payload_of (framed kind at level payload) ≡ payload
+unfolding payload_of
+payload_of-framed kind at level payload =
+    let size : 16 ≡ length (header kind at level) + 0 = omega (arith, length-header kind at level) in
+    ap (λ (n : ℕ). drop n (framed kind at level payload)) size
+    ∙ drop-append-add (header kind at level) payload 0

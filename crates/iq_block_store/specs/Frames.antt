@@ -18,7 +18,8 @@ mark = 0x31425149
 abbrev pub map_kind : ℕ
 map_kind = 4
 
--- a block's header is right: the mark, the kind, the block's own number, and no level unless it is a map
+-- a block's header is right: the mark, the kind with three zeros behind it, the block's own number, and no level unless it is
+-- a map
 abbrev pub has_header : ℕ → ℕ → List ℕ → Bool
 has_header kind at block =
     nat_eq (number_at block 0) mark && nat_eq (number_at block 4) kind && nat_eq (number_at block 8) at
@@ -31,3 +32,7 @@ header kind at level = (bytes_of mark ++ bytes_of kind) ++ (bytes_of at ++ bytes
 -- a header and a payload
 abbrev pub framed : ℕ → ℕ → ℕ → List ℕ → List ℕ
 framed kind at level payload = header kind at level ++ payload
+
+-- what a block holds behind its header
+unfoldable pub payload_of : List ℕ → List ℕ
+payload_of block = drop 16 block

@@ -1,8 +1,9 @@
 //! Reading and writing one block.
 ghost use Rattle.std.specs.Prelude.{◌≡◌, ◌<◌, ℕ, true, List, Some, length, IfErr, OnOk};
-ghost use Rattle.iq_outside.specs.Devices.{HasLooked, HasWritten};
+ghost use Rattle.iq_outside.specs.Devices.{HasWritten};
 ghost use Rattle.iq_block_store.specs.Frames.{has_header, framed};
 ghost use Rattle.iq_block_store.specs.Faults.{ReadFails, WriteFails, IsBlockAt, CameUnlessFault};
+ghost use Rattle.iq_block_store.specs.Looks.{HasLooked};
 
 use crate::frames::{self, Page};
 use iq_outside::{Block, Device};

@@ -1,6 +1,6 @@
 //! The bytes of a block.
 ghost use Rattle.std.specs.Prelude.{◌≡◌, ◌⊎◌, ◌+◌, ◌≤◌, ◌++◌, true, length};
-ghost use Rattle.iq_block_store.specs.Frames.{number_at, bytes_of, map_kind, has_header, header, framed};
+ghost use Rattle.iq_block_store.specs.Frames.{number_at, bytes_of, map_kind, has_header, header, framed, payload_of};
 
 use byteorder::{ByteOrder, LittleEndian};
 use iq_outside::Block;
@@ -45,6 +45,7 @@ fn bytes_of(n: u32) -> [u8; 4]
     bytes
 }
 
+/// The 16 bytes of a header.
 #[tactic(auto, unfolding(crate::specs::Frames::mark))]
 fn header(kind: u8, at: u32, level: u32) -> [u8; 16]
     ensures { result ≡ header kind at level }
@@ -58,10 +59,12 @@ fn header(kind: u8, at: u32, level: u32) -> [u8; 16]
     header
 }
 
-/// A block with this header and payload.
+/// A block with this header and payload: what it is made of can be read off it again.
 pub fn frame(kind: u8, at: u32, level: u32, payload: &Page) -> Block
     ensures bytes { result ≡ framed kind at level payload.now }
     ensures headed { (kind ≡ map_kind) ⊎ (level ≡ 0) → has_header kind at result ≡ true }
+    ensures level { number_at result 12 ≡ level }
+    ensures payload { payload_of result ≡ payload.now }
 {
     let mut block = [0; 1024];
     put_both(&header(kind, at, level), payload, &mut block);

@@ -21,7 +21,8 @@ fn a_block_says_what_it_is(rt: HostRuntime) -> Result<(), Fail> {
     let alloc = rt.alloc();
     let mut disk = SureDevice::new(Vec::new(alloc));
     let block = again(&mut disk, 1, 0)?;
-    assert_eq!(rt; block[..16], *b"IQB1\x01\0\0\0\x01\0\0\0\0\0\0\0");
+    let header = "IQB1\x01\0\0\0\x01\0\0\0\0\0\0\0".as_bytes();
+    assert_eq!(rt; &block[..16], header);
     assert_eq!(rt; block[1023], 7);
     let other = Some(BlockFault::BadHeader { block: 1 });
     assert_eq!(rt; again(&mut disk, 2, 0).err(), other, "another kind");
