@@ -1,0 +1,6 @@
+pub mod MapLemmas
+pub mod ObjectLemmas
+pub mod ReadLemmas
+pub mod PutLemmas
+pub mod EditLemmas
+pub mod LeafLemmas

@@ -1,0 +1,171 @@
+-- What was written, one call after the other.
+use Rattle.std.specs.Prelude.{◌≡◌, ◌≢◌, ◌⊎◌, ℕ, ◌+◌, ◌-◌, ◌<◌, ◌≤◌, Bool, true, false, ◌||◌, List, [], ◌∷◌, ◌++◌, length, take, nat_eq, Option, Some, None, slice_index, slice_set, Result, Ok, Err}
+use Rattle.std.specs.List.{list_any}
+use Rattle.std.proofs.Common.{refl, sym, ap, ◌∙◌, inl, inr, arith, append_assoc, append-nil, length-append, length-set, get_or-set_other}
+use Rattle.std.proofs.lemmas.List.{take_at, append_cancel_left}
+use Rattle.std.proofs.lemmas.Bool.{eq-eqb, cases_lt, ltb-true, and_parts}
+use Rattle.iq_outside.specs.Devices.{block_of, SameBut, KeepsPast, AddsNone, AddsAt, HasWritten, Stored}
+use Rattle.iq_outside.proofs.ImageLemmas.{SameBut-set}
+use Rattle.iq_block_store.specs.Looks.{HasLooked}
+use Rattle.iq_block_map.specs.Maps.{is_address}
+use Rattle.iq_block_map.specs.Takers.{taken_of, AreSpare}
+use Rattle.iq_block_map.specs.Writing.{holds, SameBeside, AddsBeside, HasPut}
+
+or_false : (a b : Bool) → (a || b) ≡ false → (a ≡ false) × (b ≡ false)
+or_false false false is = (refl, refl)
+or_false true b is = cc
+or_false false true is = cc
+
+false_or : (a b : Bool) → a ≡ false → b ≡ false → (a || b) ≡ false
+false_or false false p q = refl
+false_or true b p q = cc
+false_or false true p q = cc
+
+pub holds-append : (xs ys : List ℕ) (i : ℕ) → holds (xs ++ ys) i ≡ false → (holds xs i ≡ false) × (holds ys i ≡ false)
+holds-append [] ys i free = (refl, free)
+holds-append (x ∷ xs) ys i free =
+    let parts = or_false (nat_eq i x) (holds (xs ++ ys) i) free in
+    let rest = holds-append xs ys i parts.1 in
+    (false_or (nat_eq i x) (holds xs i) parts.0 rest.0, rest.1)
+
+pub taken_front : (before taken after : List ℕ) → before ≡ taken ++ after → taken_of before after ≡ taken
+taken_front before taken after is =
+    let size : length before - length after ≡ length taken = omega (arith, ap length is, length-append taken after) in
+    ap (λ (n : ℕ). take n before) size ∙ ap (take (length taken)) is ∙ take_at taken after (length taken) refl
+
+pub SameBeside-refl : (places : List ℕ) (b : List (List ℕ)) → SameBeside places b b
+SameBeside-refl places b = record { size = refl; others = λ i free. refl }
+
+pub beside_more : (xs ys : List ℕ) (a b c : List (List ℕ)) → SameBeside xs a b → SameBeside ys b c → SameBeside (xs ++ ys) a c
+beside_more xs ys a b c first second = record {
+  size = second.size ∙ first.size;
+  others = λ i free.
+    let parts = holds-append xs ys i free in
+    second.others i parts.1 ∙ first.others i parts.0;
+}
+
+pub beside_of_but : (at : ℕ) (a b : List (List ℕ)) → SameBut at a b → SameBeside (at ∷ []) a b
+beside_of_but at a b same = record {
+  size = same.size;
+  others = λ i free.
+    let parts = or_false (nat_eq i at) false free in
+    same.others i (λ is. cc (eq-eqb i at is, parts.0));
+}
+
+-- no block was taken, and the device was only looked at
+pub put_none : {D : Type 0} (blocks : D → Option (List (List ℕ))) (faults : D → ℕ) (tells : D → Bool) (clock : D → ℕ)
+    (image : D → ℕ → List (List ℕ) → Type 0) (left : List ℕ) (old new : D) → HasLooked blocks faults tells clock image old new
+    → HasPut blocks faults tells clock image left left old new
+put_none blocks faults tells clock image left old new looked =
+    let none : taken_of left left ≡ [] = taken_front left [] left refl in
+    record {
+      left = sym (ap (λ (t : List ℕ). t ++ left) none);
+      content = λ all told. (all, looked.unchanged ∙ told, rw none (SameBeside-refl [] all));
+      untold = λ never. looked.unchanged ∙ never;
+      later = looked.later;
+      past = looked.past;
+      since = λ t b since until now. (b, looked.since t b since until now, rw none (SameBeside-refl [] b));
+    }
+
+past_then : {D : Type 0} (tells : D → Bool) (clock : D → ℕ) (image : D → ℕ → List (List ℕ) → Type 0) (old between new : D)
+    → KeepsPast tells clock image old between → KeepsPast tells clock image between new → KeepsPast tells clock image old new
+past_then tells clock image old between new first second = record {
+  same = second.same ∙ first.same;
+  later = omega (arith, first.later, second.later);
+  keeps = λ t b early left. second.keeps t b (omega (arith, early, first.later)) (first.keeps t b early left);
+  no_more = λ t b early left. first.no_more t b early (second.no_more t b (omega (arith, early, first.later)) left);
+}
+
+since_then : {D : Type 0} (clock : D → ℕ) (image : D → ℕ → List (List ℕ) → Type 0) (tells : D → Bool) (xs ys : List ℕ) (old between new : D)
+    → KeepsPast tells clock image old between → KeepsPast tells clock image between new
+    → AddsBeside xs clock image old between → AddsBeside ys clock image between new → AddsBeside (xs ++ ys) clock image old new
+since_then clock image tells xs ys old between new past_first past_second first second t b since until left =
+    elim (cases_lt (clock between) t) [
+      inl after ↦
+        (let mid = second t b (omega (arith, after)) until left in
+        let start = first (clock between) mid.0 past_first.later (omega arith) mid.1 in
+        (start.0, start.1, beside_more xs ys start.0 mid.0 b start.2 mid.2))
+    | inr early ↦
+        (let start = first t b since early (past_second.no_more t b early left) in
+        (start.0, start.1, beside_more xs ys start.0 b b start.2 (SameBeside-refl ys b)))
+    ]
+
+-- one call after another
+pub put_then : {D : Type 0} (blocks : D → Option (List (List ℕ))) (faults : D → ℕ) (tells : D → Bool) (clock : D → ℕ)
+    (image : D → ℕ → List (List ℕ) → Type 0) (before mid after : List ℕ) (old between new : D)
+    → HasPut blocks faults tells clock image before mid old between → HasPut blocks faults tells clock image mid after between new
+    → HasPut blocks faults tells clock image before after old new
+put_then blocks faults tells clock image before mid after old between new first second =
+    let xs = taken_of before mid in
+    let ys = taken_of mid after in
+    let split : before ≡ (xs ++ ys) ++ after
+      = first.left ∙ ap (λ (t : List ℕ). xs ++ t) second.left ∙ sym (append_assoc xs ys after) in
+    let both : taken_of before after ≡ xs ++ ys = taken_front before (xs ++ ys) after split in
+    record {
+      left = split ∙ ap (λ (t : List ℕ). t ++ after) (sym both);
+      content = λ all told.
+        let one = first.content all told in
+        let two = second.content one.0 one.1 in
+        (two.0, two.1, rw both (beside_more xs ys all one.0 two.0 one.2 two.2));
+      untold = λ never. second.untold (first.untold never);
+      later = omega (arith, first.later, second.later);
+      past = past_then tells clock image old between new first.past second.past;
+      since = rw both (since_then clock image tells xs ys old between new first.past second.past first.since second.since);
+    }
+
+-- a block was taken and written, well or not
+pub put_one : {D U E : Type 0} (blocks : D → Option (List (List ℕ))) (faults : D → ℕ) (tells : D → Bool) (clock : D → ℕ)
+    (image : D → ℕ → List (List ℕ) → Type 0) (at : ℕ) (block before after : List ℕ) (result : Result U E) (old new : D) → before ≡ at ∷ after
+    → HasWritten blocks faults tells clock image at block result old new → HasPut blocks faults tells clock image before after old new
+put_one blocks faults tells clock image at block before after result old new is written =
+    let one : taken_of before after ≡ at ∷ [] = taken_front before (at ∷ []) after is in
+    record {
+      left = is ∙ ap (λ (t : List ℕ). t ++ after) (sym one);
+      content = λ all told. rw one (put_content result at block (blocks old) (blocks new) written.content all told);
+      untold = written.content.untold;
+      later = written.counts.later;
+      past = written.past;
+      since = rw one (λ t b since until left.
+        let start = written.since t b since until left in
+        (start.0, start.1, beside_of_but at start.0 b start.2));
+    }
+  where
+  put_content : {U E : Type 0} (result : Result U E) (at : ℕ) (block : List ℕ) (old new : Option (List (List ℕ))) → Stored at block result old new
+      → (all : List (List ℕ)) → old ≡ Some all → (now : List (List ℕ)) × (new ≡ Some now) × SameBeside (at ∷ []) all now
+  put_content (Ok u) at block old new stored all told =
+      (slice_set all at block, stored.ok all told, beside_of_but at all (slice_set all at block) (SameBut-set at all block))
+  put_content (Err e) at block old new stored all told =
+      let failed = stored.err all told in
+      (failed.0, failed.1, beside_of_but at all failed.0 failed.2)
+
+-- a device that nothing was done to
+pub looked_same : {D : Type 0} (blocks : D → Option (List (List ℕ))) (faults : D → ℕ) (tells : D → Bool) (clock : D → ℕ)
+    (image : D → ℕ → List (List ℕ) → Type 0) (now : D) → HasLooked blocks faults tells clock image now now
+looked_same blocks faults tells clock image now = record {
+  unchanged = refl;
+  later = omega arith;
+  past = record { same = refl; later = omega arith; keeps = λ t b early left. left; no_more = λ t b early left. left };
+  since = λ t b since until left. rw (← same t since until) left;
+}
+  where
+  same : (t : ℕ) → clock now ≤ t → t ≤ clock now → t ≡ clock now
+  same t since until = omega (arith, since, until)
+
+-- the first of the blocks that may be taken is in the store
+pub first_inside : (told : Option (List (List ℕ))) (all : List (List ℕ)) (at : ℕ) (before after : List ℕ) → AreSpare told before → told ≡ Some all
+    → before ≡ at ∷ after → at < length all
+first_inside told all at before after spare is head =
+    let some : 0 < length before = omega (arith, ap length head) in
+    let first : is_address (length all) (slice_index before 0) ≡ true = spare.inside all is 0 0 some in
+    let address : is_address (length all) at ≡ true = ap (λ (xs : List ℕ). is_address (length all) (slice_index xs 0)) (sym head) ∙ first in
+    ltb-true _ _ (and_parts _ _ address).1
+
+-- a block that was written well is in its place
+pub written_ok : {U E : Type 0} (result : Result U E) (at : ℕ) (block : List ℕ) (old new : Option (List (List ℕ))) {u : U} → result ≡ Ok u
+    → Stored at block result old new → (all : List (List ℕ)) → old ≡ Some all → new ≡ Some (slice_set all at block)
+written_ok (Ok v) at block old new is stored all told = stored.ok all told
+written_ok (Err e) at block old new is stored all told = cc
+
+-- what is told twice is the same
+pub told_same : (old new : Option (List (List ℕ))) (now all : List (List ℕ)) → new ≡ old → new ≡ Some now → old ≡ Some all → now ≡ all
+told_same old new now all same is told = cc

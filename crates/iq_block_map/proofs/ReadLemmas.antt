@@ -1,0 +1,60 @@
+-- What was read of maps and pages.
+use Rattle.std.specs.Prelude.{◌≡◌, ℕ, zero, suc, ◌+◌, ◌*◌, ◌-◌, ◌/◌, ◌%◌, ◌<◌, ◌≤◌, min, Bool, true, ◌&&◌, List, [], ◌∷◌, ◌++◌, length, take, drop, slice_index, Option, Some}
+use Rattle.std.specs.List.{list_all}
+use Rattle.std.proofs.Common.{refl, sym, ap, ◌∙◌, arith}
+use Rattle.std.proofs.lemmas.List.{get_or-take, length-take}
+use Rattle.std.proofs.lemmas.Bool.{ltb-true, leb-true, and_parts}
+use Rattle.iq_outside.specs.Faults.{RoseWithin}
+use Rattle.iq_outside.specs.Devices.{block_of}
+use Rattle.iq_block_store.specs.Frames.{has_header, payload_of}
+use Rattle.iq_block_map.specs.Maps.{page_kind, is_address}
+use Rattle.iq_block_map.specs.Refs.{MayBe}
+use Rattle.iq_block_map.specs.Objects.{HoldsPage}
+use Rattle.iq_block_map.specs.Causes.{IsReadFault, IsWalkFault}
+use Rattle.iq_block_map.specs.declared.refs.MapFault.{MapFault}
+use Rattle.iq_block_map.specs.declared.refs.MapFault.TheVariants.{StoreFault, BadMap, NoSpace, NoMemory}
+
+all_at : (P : ℕ → Bool) (xs : List ℕ) (k : ℕ) → list_all P xs ≡ true → k < length xs → P (slice_index xs k) ≡ true
+all_at P [] k pass within = absurd (omega (arith, within))
+all_at P (x ∷ xs) zero pass within = (and_parts (P x) (list_all P xs) pass).0
+all_at P (x ∷ xs) (suc k) pass within = all_at P xs k (and_parts (P x) (list_all P xs) pass).1 (omega (arith, within))
+
+-- each number in use names a block
+pub address_at : (count used k : ℕ) (ps : List ℕ) → MayBe count used ps → k < used → used ≤ 252 → is_address count (slice_index ps k) ≡ true
+address_at count used k ps may within fits =
+    let named : list_all (is_address count) (take used ps) ≡ true = (and_parts _ _ may.places).0 in
+    let inside : k < length (take used ps) = omega (arith, within, fits, may.size, length-take used ps) in
+    ap (is_address count) (sym (get_or-take used ps k 0 within)) ∙ all_at (is_address count) (take used ps) k named inside
+
+pub below_count : (count used k : ℕ) (ps : List ℕ) → MayBe count used ps → k < used → used ≤ 252 → slice_index ps k < count
+below_count count used k ps may within fits = ltb-true _ _ (and_parts _ _ (address_at count used k ps may within fits)).1
+
+pub from_four : (count used k : ℕ) (ps : List ℕ) → MayBe count used ps → k < used → used ≤ 252 → 4 ≤ slice_index ps k
+from_four count used k ps may within fits = leb-true _ _ (and_parts _ _ (address_at count used k ps may within fits)).0
+
+pub holds_page : (page block : List ℕ) (at : ℕ) (all : List (List ℕ)) → has_header page_kind at block ≡ true → block ≡ block_of all at
+    → page ≡ drop 16 block → HoldsPage page at all
+unfolding payload_of
+holds_page page block at all header is content = record {
+  header = ap (has_header page_kind at) (sym is) ∙ header;
+  content = content ∙ ap (drop 16) is;
+}
+
+-- a cause is handed on by whoever looked before
+pub read_fault_on : (P Q : ℕ → List (List ℕ) → Type 0) (e : MapFault) (told told' : Option (List (List ℕ))) (first first' last last' : ℕ)
+    → told' ≡ told → first ≤ first' → last' ≤ last → ((b : ℕ) (all : List (List ℕ)) → told ≡ Some all → P b all → Q b all)
+    → IsReadFault P e told' first' last' → IsReadFault Q e told first last
+read_fault_on P Q (StoreFault before after) told told' first first' last last' same early late pass rose =
+    record { since = omega (arith, early, rose.since); risen = rose.risen; until = omega (arith, late, rose.until) }
+read_fault_on P Q (BadMap block) told told' first first' last last' same early late pass bad = λ all is. pass block all is (bad all (same ∙ is))
+read_fault_on P Q NoSpace told told' first first' last last' same early late pass bad = bad
+read_fault_on P Q NoMemory told told' first first' last last' same early late pass bad = bad
+
+pub walk_fault_on : (P Q : ℕ → List (List ℕ) → Type 0) (e : MapFault) (told told' : Option (List (List ℕ))) (first first' last last' : ℕ)
+    → told' ≡ told → first ≤ first' → last' ≤ last → ((b : ℕ) (all : List (List ℕ)) → told ≡ Some all → P b all → Q b all)
+    → IsReadFault P e told' first' last' → IsWalkFault Q e told first last
+walk_fault_on P Q (StoreFault before after) told told' first first' last last' same early late pass rose =
+    record { since = omega (arith, early, rose.since); risen = rose.risen; until = omega (arith, late, rose.until) }
+walk_fault_on P Q (BadMap block) told told' first first' last last' same early late pass bad = λ all is. pass block all is (bad all (same ∙ is))
+walk_fault_on P Q NoSpace told told' first first' last last' same early late pass bad = absurd bad
+walk_fault_on P Q NoMemory told told' first first' last last' same early late pass bad = tt

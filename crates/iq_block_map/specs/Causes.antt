@@ -1,0 +1,50 @@
+-- Why an object wasn't read or written.
+use Rattle.std.specs.Prelude.{◌≡◌, ◌⊎◌, ℕ, false, List, [], Result, Ok, Err, Option, Some}
+use Rattle.iq_outside.specs.Faults.{RoseWithin}
+use Rattle.iq_outside.specs.Devices.{block_of}
+use Rattle.iq_block_store.specs.Frames.{has_header}
+use Rattle.iq_block_map.specs.declared.refs.Ref.{Ref}
+use Rattle.iq_block_map.specs.declared.refs.MapFault.{MapFault}
+use Rattle.iq_block_map.specs.declared.refs.MapFault.TheVariants.{StoreFault, BadMap, NoSpace, NoMemory}
+use Rattle.iq_block_map.specs.Maps.{page_kind}
+use Rattle.iq_block_map.specs.Objects.{addresses_of, address_of}
+
+-- only where the count of faults rose meanwhile
+abbrev pub IsStoreFault : MapFault → ℕ → ℕ → Type 0
+IsStoreFault (StoreFault before after) first last = RoseWithin first before after last
+IsStoreFault (BadMap block) first last = ⊥
+IsStoreFault NoSpace first last = ⊥
+IsStoreFault NoMemory first last = ⊥
+
+-- or where this block is bad, which the device's blocks tell
+abbrev pub IsReadFault : (ℕ → List (List ℕ) → Type 0) → MapFault → Option (List (List ℕ)) → ℕ → ℕ → Type 0
+IsReadFault IsBad (StoreFault before after) told first last = RoseWithin first before after last
+IsReadFault IsBad (BadMap block) told first last = (all : List (List ℕ)) → told ≡ Some all → IsBad block all
+IsReadFault IsBad NoSpace told first last = ⊥
+IsReadFault IsBad NoMemory told first last = ⊥
+
+-- the same, or for want of memory
+abbrev pub IsWalkFault : (ℕ → List (List ℕ) → Type 0) → MapFault → Option (List (List ℕ)) → ℕ → ℕ → Type 0
+IsWalkFault IsBad (StoreFault before after) told first last = RoseWithin first before after last
+IsWalkFault IsBad (BadMap block) told first last = (all : List (List ℕ)) → told ≡ Some all → IsBad block all
+IsWalkFault IsBad NoSpace told first last = ⊥
+IsWalkFault IsBad NoMemory told first last = Unit {0}
+
+-- a page's way: a map on it isn't right, or the block at its end is no page
+abbrev pub IsBadOnWay : Ref → ℕ → ℕ → List (List ℕ) → Type 0
+IsBadOnWay object n block all =
+    (address_of all object n ≡ Err block) ⊎ ((address_of all object n ≡ Ok block) × (has_header page_kind block (block_of all block) ≡ false))
+
+-- a block wasn't written: no block was left, or the count of faults rose meanwhile
+abbrev pub IsPutFault : MapFault → List ℕ → ℕ → ℕ → Type 0
+IsPutFault (StoreFault before after) left first last = RoseWithin first before after last
+IsPutFault (BadMap block) left first last = ⊥
+IsPutFault NoSpace left first last = left ≡ []
+IsPutFault NoMemory left first last = ⊥
+
+-- an object wasn't written: so, or a block that was read is bad, which the device's blocks tell
+abbrev pub IsEditFault : (ℕ → List (List ℕ) → Type 0) → MapFault → Option (List (List ℕ)) → List ℕ → ℕ → ℕ → Type 0
+IsEditFault IsBad (StoreFault before after) told left first last = RoseWithin first before after last
+IsEditFault IsBad (BadMap block) told left first last = (all : List (List ℕ)) → told ≡ Some all → IsBad block all
+IsEditFault IsBad NoSpace told left first last = left ≡ []
+IsEditFault IsBad NoMemory told left first last = ⊥

@@ -1,0 +1,34 @@
+-- The bytes of a map: 252 numbers of 4 bytes behind its header. Those in use name blocks of the store, the others are zero.
+use Rattle.std.specs.Prelude.{◌≡◌, ℕ, zero, suc, ◌+◌, ◌*◌, Bool, ◌&&◌, List, [], ◌∷◌, ◌++◌, length, take, drop, replicate, nat_eq, nat_lt, nat_le}
+use Rattle.std.specs.List.{list_all, flat_map}
+use Rattle.iq_block_store.specs.Frames.{number_at, bytes_of, map_kind, has_header, framed}
+
+-- the kind of a page
+abbrev pub page_kind : ℕ
+page_kind = 5
+
+-- so many numbers of 4 bytes, from a place on
+abbrev pub numbers_at : List ℕ → ℕ → ℕ → List ℕ
+numbers_at block i zero = []
+numbers_at block i (suc n) = number_at block i ∷ numbers_at block (i + 4) n
+
+-- the numbers of a map
+unfoldable pub places : List ℕ → List ℕ
+places block = numbers_at block 16 252
+
+-- the number of a block that may be a map or a page: one behind the roots, in a store of so many blocks
+abbrev pub is_address : ℕ → ℕ → Bool
+is_address count a = nat_le 4 a && nat_lt a count
+
+-- the numbers of a map are right: so many name blocks, and the others are zero
+abbrev pub are_places : ℕ → ℕ → List ℕ → Bool
+are_places count used ps = list_all (is_address count) (take used ps) && list_all (nat_eq 0) (drop used ps)
+
+-- a block is a map of a level with so many numbers in use
+abbrev pub is_map : ℕ → ℕ → ℕ → ℕ → List ℕ → Bool
+is_map count level used at block =
+    has_header map_kind at block && nat_eq (number_at block 12) level && are_places count used (places block)
+
+-- the block of a map
+abbrev pub map_block : ℕ → ℕ → List ℕ → List ℕ
+map_block level at ps = framed map_kind at level (flat_map bytes_of ps)

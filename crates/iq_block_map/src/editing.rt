@@ -1,0 +1,184 @@
+//! Writing an object anew, by maps that it shares with the old one where their pages are the same.
+ghost use Rattle.std.specs.Prelude.{◌≡◌, ◌⊎◌, ◌≤◌, ◌<◌, ◌*◌, ◌+◌, ◌-◌, ◌∷◌, ◌++◌, ℕ, true, false, List, [], Some, Ok, Err, length, take, drop, IfOk, IfErr, OnOk, slice_index, slice_set, nat_lt};
+ghost use Rattle.iq_block_map.specs.Maps.{is_address};
+ghost use Rattle.iq_block_map.specs.Refs.{IsIn, MayBe};
+ghost use Rattle.iq_block_map.specs.Objects.{leaf_count, used_in, map_at, leaves_of, addresses_of, pages_of};
+ghost use Rattle.iq_block_map.specs.Takers.{AreSpare};
+ghost use Rattle.iq_block_map.specs.Writing.{HasPut};
+ghost use Rattle.iq_block_map.specs.Editing.{replaced_from, edited, padded, leaf_at, AreChanges, AreBlocks, AreApart, new_blocks, HasRemapped, EndsLeaf, IsNowIn, IsBadMap, IsOpened, AreOpened, IsBadLeaf, HasLeaves};
+ghost use Rattle.iq_block_map.specs.Causes.{IsEditFault, IsReadFault};
+ghost use Rattle.iq_block_store.specs.Looks.{HasLooked};
+ghost use Rattle.std.specs.List.{prefix_len};
+
+use crate::maps::{MAP, Places, ROOM, payload_of};
+use crate::reading::{count_of, leaf_count, leaves_of, read_map, used_in};
+use crate::writing::put;
+use crate::{MapFault, Ref, Taker};
+use iq_outside::Device;
+
+/// A leaf of an object: its block, its first page, and how many pages it names.
+#[derive(Clone, Copy, Debug)]
+struct Leaf {
+    at: u32,
+    first: u32,
+    used: usize,
+}
+
+/// Makes an object of another: some of its pages are in other blocks, by their numbers in ascending order, and some are added at
+/// the end. Each map of the new object whose pages the old one has in the same place is shared. It takes a block for each other
+/// map, reads and writes no map without need, and takes no memory.
+pub fn remap<D: Device, T: Taker>(
+    disk: &mut D,
+    space: &mut T,
+    old: Ref,
+    changed: &[(u32, u32)],
+    added: &[u32],
+) -> Result<Ref, MapFault>
+    requires object { IsIn (D.blocks disk.old) old }
+    requires changes { AreChanges 0 old.pages changed.now }
+    requires most { old.pages + length added.now ≤ 63504 }
+    requires changed { AreBlocks (D.blocks disk.old) (new_blocks changed.now) }
+    requires added { AreBlocks (D.blocks disk.old) added.now }
+    requires spare { AreSpare (D.blocks disk.old) (T.left space.old) }
+    ensures put { HasPut D.blocks D.faults D.tells D.clock D.image (T.left space.old) (T.left space.new) disk.old disk.new }
+    ensures ok { IfOk result (λ new. (all : List (List ℕ)) (xs : List ℕ) → D.blocks disk.old ≡ Some all
+        → AreApart all old (T.left space.old) → addresses_of all old ≡ Ok xs
+        → IsNowIn (λ now. HasRemapped all now old new xs (edited xs changed.now added.now) (T.left space.old) (T.left space.new)) (D.blocks disk.new)) }
+    ensures pages { IfOk result (λ new. new.pages ≡ old.pages + length added.now) }
+    ensures cause { IfErr result (λ e. IsEditFault
+        (λ b all. AreApart all old (T.left space.old) → (leaves_of all old ≡ Err b) ⊎ IsBadMap old b all)
+        e (D.blocks disk.old) (T.left space.new) (D.faults disk.old) (D.faults disk.new)) }
+{
+    if changed.is_empty() && added.is_empty() {
+        return Ok(old);
+    }
+    let count = count_of(disk)?;
+    let before = leaves_of(disk, count, old)?;
+    let leaves = rewrite_leaves(disk, space, count, old, &before, changed, added)?;
+    let pages = old.pages + added.len() as u32;
+    if pages <= 252 {
+        let root = leaves[0];
+        return Ok(Ref { root, pages });
+    }
+    if old.pages > 252 && leaves == before {
+        let root = old.root;
+        return Ok(Ref { root, pages });
+    }
+    let root = put(disk, space, MAP, 2, &payload_of(&leaves))?;
+    Ok(Ref { root, pages })
+}
+
+/// The leaves of an object with some pages in other blocks and some added, by the leaves that it had.
+fn rewrite_leaves<D: Device, T: Taker>(
+    disk: &mut D,
+    space: &mut T,
+    count: u32,
+    old: Ref,
+    before: &Places,
+    changed: &[(u32, u32)],
+    added: &[u32],
+) -> Result<Places, MapFault>
+    requires count { (all : List (List ℕ)) → D.blocks disk.old ≡ Some all → count ≡ length all }
+    requires changes { AreChanges 0 old.pages changed.now }
+    requires most { old.pages + length added.now ≤ 63504 }
+    requires changed { AreBlocks (D.blocks disk.old) (new_blocks changed.now) }
+    requires added { AreBlocks (D.blocks disk.old) added.now }
+    requires spare { AreSpare (D.blocks disk.old) (T.left space.old) }
+    ensures put { HasPut D.blocks D.faults D.tells D.clock D.image (T.left space.old) (T.left space.new) disk.old disk.new }
+    ensures ok { IfOk result (λ leaves. (all : List (List ℕ)) (xs : List ℕ) → D.blocks disk.old ≡ Some all
+        → IsOpened all old before.now xs (T.left space.old)
+        → IsNowIn (λ now. HasLeaves all now before.now leaves xs (edited xs changed.now added.now) (T.left space.old) (T.left space.new)) (D.blocks disk.new)) }
+    ensures cause { IfErr result (λ e. IsEditFault (λ b all. AreOpened all old before.now (T.left space.old) → IsBadLeaf old before.now b all)
+        e (D.blocks disk.old) (T.left space.new) (D.faults disk.old) (D.faults disk.new)) }
+{
+    let mut leaves = *before;
+    let mut changed = changed;
+    let mut added = added;
+    for k in 0..leaf_count(old.pages + added.len() as u32) {
+        let leaf = Leaf {
+            at: leaves[k as usize],
+            first: 252 * k,
+            used: used_in(old.pages, k),
+        };
+        let (here, later) = changed.split_at(count_below(changed, 252 * (k + 1)));
+        let (more, rest) = added.split_at(added.len().min(ROOM - leaf.used));
+        leaves[k as usize] = rewrite_leaf(disk, space, count, leaf, here, more)?;
+        changed = later;
+        added = rest;
+    }
+    Ok(leaves)
+}
+
+/// How many changes are of pages below one.
+fn count_below(changed: &[(u32, u32)], end: u32) -> usize
+    ensures { result ≡ prefix_len (λ (c : ℕ × ℕ). nat_lt c.0 end) changed.now }
+{
+    changed.iter().take_while(|c| c.0 < end).count()
+}
+
+/// A leaf with some of its pages in other blocks and some added: itself where that changes nothing, else one that is written.
+fn rewrite_leaf<D: Device, T: Taker>(
+    disk: &mut D,
+    space: &mut T,
+    count: u32,
+    leaf: Leaf,
+    here: &[(u32, u32)],
+    more: &[u32],
+) -> Result<u32, MapFault>
+    requires count { (all : List (List ℕ)) → D.blocks disk.old ≡ Some all → count ≡ length all }
+    requires leaf { (all : List (List ℕ)) → D.blocks disk.old ≡ Some all → 1 ≤ leaf.used → leaf.at < length all }
+    requires room { leaf.used + length more.now ≤ 252 }
+    requires here { AreChanges leaf.first (leaf.first + leaf.used) here.now }
+    requires more { AreBlocks (D.blocks disk.old) more.now }
+    requires spare { AreSpare (D.blocks disk.old) (T.left space.old) }
+    ensures put { HasPut D.blocks D.faults D.tells D.clock D.image (T.left space.old) (T.left space.new) disk.old disk.new }
+    ensures ok { IfOk result (λ made. (all : List (List ℕ)) (xs : List ℕ) → D.blocks disk.old ≡ Some all
+        → leaf_at all leaf.used leaf.at ≡ Ok xs
+        → IsNowIn (λ now. EndsLeaf all now leaf.at made xs (replaced_from leaf.first xs here.now ++ more.now) (T.left space.old) (T.left space.new)) (D.blocks disk.new)) }
+    ensures cause { IfErr result (λ e. IsEditFault (λ b all. (b ≡ leaf.at) × (map_at all 1 leaf.used leaf.at ≡ Err leaf.at))
+        e (D.blocks disk.old) (T.left space.new) (D.faults disk.old) (D.faults disk.new)) }
+{
+    if here.is_empty() && more.is_empty() {
+        return Ok(leaf.at);
+    }
+    let before = read_leaf(disk, count, leaf)?;
+    let places = edit(&before, leaf, here, more);
+    if places == before {
+        return Ok(leaf.at);
+    }
+    put(disk, space, MAP, 1, &payload_of(&places))
+}
+
+/// The numbers of a leaf. One of no pages has zeros.
+#[tactic(auto, using(crate::proofs::LeafLemmas::padded_of))]
+fn read_leaf<D: Device>(disk: &mut D, count: u32, leaf: Leaf) -> Result<Places, MapFault>
+    requires count { (all : List (List ℕ)) → D.blocks disk.old ≡ Some all → count ≡ length all }
+    requires leaf { (all : List (List ℕ)) → D.blocks disk.old ≡ Some all → 1 ≤ leaf.used → leaf.at < length all }
+    requires used { leaf.used ≤ 252 }
+    ensures looked { HasLooked D.blocks D.faults D.tells D.clock D.image disk.old disk.new }
+    ensures ok { IfOk result (λ ps. (all : List (List ℕ)) → D.blocks disk.old ≡ Some all
+        → leaf_at all leaf.used leaf.at ≡ Ok (take leaf.used ps)) }
+    ensures padded { IfOk result (λ ps. ps ≡ padded (take leaf.used ps)) }
+    ensures cause { IfErr result (λ e. IsReadFault (λ b all. (b ≡ leaf.at) × (map_at all 1 leaf.used leaf.at ≡ Err leaf.at))
+        e (D.blocks disk.old) (D.faults disk.old) (D.faults disk.new)) }
+{
+    if leaf.used == 0 {
+        return Ok([0; ROOM]);
+    }
+    read_map(disk, count, 1, leaf.used, leaf.at)
+}
+
+/// The numbers of a leaf with some replaced and others behind those in use.
+fn edit(before: &Places, leaf: Leaf, here: &[(u32, u32)], more: &[u32]) -> Places
+    requires room { leaf.used + length more.now ≤ 252 }
+    requires here { AreChanges leaf.first (leaf.first + leaf.used) here.now }
+    ensures { (xs : List ℕ) → length xs ≡ leaf.used → before.now ≡ padded xs
+        → result ≡ padded (replaced_from leaf.first xs here.now ++ more.now) }
+{
+    let mut places = *before;
+    for change in here {
+        places[(change.0 - leaf.first) as usize] = change.1;
+    }
+    places[leaf.used..leaf.used + more.len()].copy_from_slice(more);
+    places
+}

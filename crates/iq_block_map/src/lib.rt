@@ -1,0 +1,20 @@
+//! Objects of pages: an object is a list of pages behind one reference.
+//!
+//! Contracts see an object as the list of its pages, `pages_of`, in the blocks `addresses_of`. Below stands `iq_block_store`,
+//! which reads and writes one block; above stand the catalog and the transactions, which keep references. Its one law: no call
+//! writes a block that an old reference reaches.
+#![tactic(auto)]
+
+
+mod editing;
+mod maps;
+mod reading;
+mod refs;
+mod taker;
+mod writing;
+
+
+pub use editing::remap;
+pub use reading::{addresses, blocks, page};
+pub use refs::{MapFault, Ref};
+pub use taker::Taker;

@@ -1,0 +1,214 @@
+//! Reading objects.
+ghost use Rattle.std.specs.Prelude.{◌≡◌, ◌≤◌, ◌<◌, ◌*◌, ◌+◌, ◌-◌, ◌++◌, ℕ, true, false, List, [], Some, Ok, Err, length, take, drop, IfOk, IfErr, OnOk, nat_eq, replicate};
+ghost use Rattle.std.specs.List.{list_all};
+ghost use Rattle.iq_outside.specs.Devices.{block_of};
+ghost use Rattle.iq_block_store.specs.Frames.{has_header, payload_of};
+ghost use Rattle.iq_block_store.specs.Looks.{HasLooked};
+ghost use Rattle.iq_block_map.specs.Maps.{page_kind, places, is_map, is_address};
+ghost use Rattle.iq_block_map.specs.Objects.{leaf_count, used_in, map_at, leaves_of, addresses_of, blocks_of, walked, front, IsPageAt, HoldsPage};
+ghost use Rattle.iq_block_map.specs.Causes.{IsStoreFault, IsReadFault, IsWalkFault, IsBadOnWay};
+ghost use Rattle.iq_block_map.specs.declared.refs.MapFault.TheVariants.{NoMemory};
+ghost use Rattle.iq_block_map.specs.Refs.{IsIn, MayBe};
+
+use crate::maps::{MAP, PAGE, Places, ROOM, is_map, places_of};
+use crate::{MapFault, Ref};
+use iq_block_store::{BlockFault, Page, read};
+use iq_outside::Device;
+use std::alloc::Global;
+
+/// How many leaves so many pages take.
+pub fn leaf_count(pages: u32) -> u32
+    requires { pages ≤ 63504 }
+    ensures { result ≡ leaf_count pages }
+{
+    (pages + 251) / 252
+}
+
+/// How many pages a leaf names, of so many.
+pub fn used_in(pages: u32, k: u32) -> usize
+    requires { k ≤ 252 }
+    ensures { result ≡ used_in pages k }
+{
+    let used = pages.saturating_sub(252 * k).min(252);
+    used as usize
+}
+
+/// How many blocks the device has.
+pub fn count_of<D: Device>(disk: &mut D) -> Result<u32, MapFault>
+    ensures looked { HasLooked D.blocks D.faults D.tells D.clock D.image disk.old disk.new }
+    ensures count { IfOk result (λ n. (all : List (List ℕ)) → D.blocks disk.old ≡ Some all → n ≡ length all) }
+    ensures cause { IfErr result (λ e. IsStoreFault e (D.faults disk.old) (D.faults disk.new)) }
+{
+    let before = disk.faults();
+    match disk.count() {
+        Ok(count) => Ok(count),
+        Err(_) => {
+            let after = disk.faults();
+            Err(MapFault::StoreFault { before, after })
+        }
+    }
+}
+
+/// Reads a map of a level with so many numbers in use.
+pub fn read_map<D: Device>(
+    disk: &mut D,
+    count: u32,
+    level: u32,
+    used: usize,
+    at: u32,
+) -> Result<Places, MapFault>
+    requires used { used ≤ 252 }
+    requires told { (all : List (List ℕ)) → D.blocks disk.old ≡ Some all → (count ≡ length all) × (at < length all) }
+    ensures looked { HasLooked D.blocks D.faults D.tells D.clock D.image disk.old disk.new }
+    ensures ok { IfOk result (λ ps. (all : List (List ℕ)) → D.blocks disk.old ≡ Some all
+        → map_at all level used at ≡ Ok (take used ps)) }
+    ensures places { IfOk result (λ ps. MayBe count used ps) }
+    ensures cause { IfErr result (λ e. IsReadFault (λ b all. (b ≡ at) × (map_at all level used at ≡ Err at))
+        e (D.blocks disk.old) (D.faults disk.old) (D.faults disk.new)) }
+{
+    let mut block = [0; 1024];
+    match read(disk, at, MAP, &mut block) {
+        Ok(()) if is_map(count, level, used, at, &block) => Ok(places_of(&block)),
+        Ok(()) | Err(BlockFault::BadHeader { .. }) => Err(MapFault::BadMap { block: at }),
+        Err(BlockFault::StoreFault { before, after }) => Err(MapFault::StoreFault { before, after }),
+    }
+}
+
+/// The leaves of an object. The numbers behind them are zero.
+pub fn leaves_of<D: Device>(disk: &mut D, count: u32, object: Ref) -> Result<Places, MapFault>
+    requires object { IsIn (D.blocks disk.old) object }
+    requires count { (all : List (List ℕ)) → D.blocks disk.old ≡ Some all → count ≡ length all }
+    ensures looked { HasLooked D.blocks D.faults D.tells D.clock D.image disk.old disk.new }
+    ensures ok { IfOk result (λ ps. (all : List (List ℕ)) → D.blocks disk.old ≡ Some all
+        → leaves_of all object ≡ Ok (take (leaf_count object.pages) ps)) }
+    ensures places { IfOk result (λ ps. (all : List (List ℕ)) → D.blocks disk.old ≡ Some all
+        → MayBe (length all) (leaf_count object.pages) ps) }
+    ensures cause { IfErr result (λ e. IsReadFault (λ b all. leaves_of all object ≡ Err b)
+        e (D.blocks disk.old) (D.faults disk.old) (D.faults disk.new)) }
+{
+    if object.pages <= 252 {
+        return Ok(only_leaf(object));
+    }
+    read_map(disk, count, 2, leaf_count(object.pages) as usize, object.root)
+}
+
+/// The leaf of an object of at most 252 pages.
+fn only_leaf(object: Ref) -> Places
+    requires { object.pages ≤ 252 }
+    ensures places { (count : ℕ) → (1 ≤ object.pages → is_address count object.root ≡ true) → MayBe count (leaf_count object.pages) result }
+    ensures leaves { (all : List (List ℕ)) → leaves_of all object ≡ Ok (take (leaf_count object.pages) result) }
+{
+    let mut leaves = [0; ROOM];
+    if object.pages > 0 {
+        leaves[0] = object.root;
+    }
+    leaves
+}
+
+/// Reads a page and answers its block. It takes no memory.
+pub fn page<D: Device>(
+    disk: &mut D,
+    object: Ref,
+    n: u32,
+    into: &mut Page,
+) -> Result<u32, MapFault>
+    requires object { IsIn (D.blocks disk.old) object }
+    requires page { n < object.pages }
+    ensures looked { HasLooked D.blocks D.faults D.tells D.clock D.image disk.old disk.new }
+    ensures ok { IfOk result (λ at. (all : List (List ℕ)) → D.blocks disk.old ≡ Some all → IsPageAt object n at into.new all) }
+    ensures cause { IfErr result (λ e. IsReadFault (IsBadOnWay object n)
+        e (D.blocks disk.old) (D.faults disk.old) (D.faults disk.new)) }
+{
+    let count = count_of(disk)?;
+    let leaves = leaves_of(disk, count, object)?;
+    let k = n / 252;
+    let leaf = read_map(disk, count, 1, used_in(object.pages, k), leaves[k as usize])?;
+    let at = leaf[(n % 252) as usize];
+    read_page(disk, at, into)?;
+    Ok(at)
+}
+
+/// Reads the page in a block.
+fn read_page<D: Device>(disk: &mut D, at: u32, into: &mut Page) -> Result<(), MapFault>
+    requires { (all : List (List ℕ)) → D.blocks disk.old ≡ Some all → at < length all }
+    ensures looked { HasLooked D.blocks D.faults D.tells D.clock D.image disk.old disk.new }
+    ensures ok { OnOk result ((all : List (List ℕ)) → D.blocks disk.old ≡ Some all → HoldsPage into.new at all) }
+    ensures cause { IfErr result (λ e. IsReadFault (λ b all. (b ≡ at) × (has_header page_kind b (block_of all b) ≡ false))
+        e (D.blocks disk.old) (D.faults disk.old) (D.faults disk.new)) }
+{
+    let mut block = [0; 1024];
+    match read(disk, at, PAGE, &mut block) {
+        Ok(()) => {
+            into.copy_from_slice(block.split_at(16).1);
+            Ok(())
+        }
+        Err(BlockFault::BadHeader { .. }) => Err(MapFault::BadMap { block: at }),
+        Err(BlockFault::StoreFault { before, after }) => Err(MapFault::StoreFault { before, after }),
+    }
+}
+
+/// The blocks of an object's pages, in order. It reads each map of the object once and no page: one block for up to 252 pages,
+/// else one for each 252 pages begun and one more.
+pub fn addresses<D: Device>(
+    alloc: Global,
+    disk: &mut D,
+    object: Ref,
+) -> Result<Vec<u32>, MapFault>
+    requires object { IsIn (D.blocks disk.old) object }
+    ensures looked { HasLooked D.blocks D.faults D.tells D.clock D.image disk.old disk.new }
+    ensures ok { IfOk result (λ xs. (all : List (List ℕ)) → D.blocks disk.old ≡ Some all → addresses_of all object ≡ Ok xs.items) }
+    ensures cause { IfErr result (λ e. IsWalkFault (λ b all. addresses_of all object ≡ Err b)
+        e (D.blocks disk.old) (D.faults disk.old) (D.faults disk.new)) }
+{
+    walk(alloc, disk, object, false)
+}
+
+/// The blocks that an object reaches, each map before what it names. It reads each map of the object once and no page.
+pub fn blocks<D: Device>(alloc: Global, disk: &mut D, object: Ref) -> Result<Vec<u32>, MapFault>
+    requires object { IsIn (D.blocks disk.old) object }
+    ensures looked { HasLooked D.blocks D.faults D.tells D.clock D.image disk.old disk.new }
+    ensures ok { IfOk result (λ xs. (all : List (List ℕ)) → D.blocks disk.old ≡ Some all → blocks_of all object ≡ Ok xs.items) }
+    ensures cause { IfErr result (λ e. IsWalkFault (λ b all. blocks_of all object ≡ Err b)
+        e (D.blocks disk.old) (D.faults disk.old) (D.faults disk.new)) }
+{
+    walk(alloc, disk, object, true)
+}
+
+/// The blocks of an object's pages, and where they are wanted its maps, each before what it names.
+fn walk<D: Device>(
+    alloc: Global,
+    disk: &mut D,
+    object: Ref,
+    maps: bool,
+) -> Result<Vec<u32>, MapFault>
+    requires object { IsIn (D.blocks disk.old) object }
+    ensures looked { HasLooked D.blocks D.faults D.tells D.clock D.image disk.old disk.new }
+    ensures ok { IfOk result (λ xs. (all : List (List ℕ)) → D.blocks disk.old ≡ Some all → walked maps all object ≡ Ok xs.items) }
+    ensures cause { IfErr result (λ e. IsWalkFault (λ b all. walked maps all object ≡ Err b)
+        e (D.blocks disk.old) (D.faults disk.old) (D.faults disk.new)) }
+{
+    let count = count_of(disk)?;
+    let leaves = leaves_of(disk, count, object)?;
+    let mut blocks = Vec::new(alloc);
+    if maps && object.pages > 252 {
+        blocks.push(object.root)?;
+    }
+    for k in 0..leaf_count(object.pages) {
+        let used = used_in(object.pages, k);
+        let leaf = read_map(disk, count, 1, used, leaves[k as usize])?;
+        put_leaf(&mut blocks, maps, leaves[k as usize], leaf.split_at(used).0)?;
+    }
+    Ok(blocks)
+}
+
+/// Puts the blocks that a leaf names at the end, behind the leaf itself where maps are wanted.
+fn put_leaf(blocks: &mut Vec<u32>, maps: bool, leaf: u32, named: &[u32]) -> Result<(), MapFault>
+    ensures ok { OnOk result (blocks.new.items ≡ blocks.old.items ++ (front maps leaf ++ named.now)) }
+    ensures cause { IfErr result (λ e. e ≡ NoMemory) }
+{
+    if maps {
+        blocks.push(leaf)?;
+    }
+    blocks.extend_from_slice(named)?;
+    Ok(())
+}

@@ -1,0 +1,61 @@
+//! What names an object, and why its pages aren't found.
+use std::alloc::{AllocError, AllocFailed};
+use std::error::Error;
+use std::fmt;
+
+/// An object of pages: the block of its topmost map, and how many pages it has. Without pages the root is 0.
+#[derive(Clone, Copy, Debug, PartialEq, Eq)]
+pub struct Ref {
+    pub root: u32,
+    pub pages: u32,
+}
+
+/// Why an object wasn't read or written.
+#[derive(Clone, Copy, Debug, PartialEq, Eq)]
+pub enum MapFault {
+    /// The device failed: its count of faults rose from the one number to the other.
+    StoreFault { before: u64, after: u64 },
+    /// The block isn't of its kind and place, or is a map that names no block of the store or says more than it may.
+    BadMap { block: u32 },
+    /// There was no block left to take.
+    NoSpace,
+    /// There was no memory.
+    NoMemory,
+}
+
+impl fmt::Display for MapFault {
+    fn fmt<W: fmt::Write>(&self, f: &mut fmt::Formatter<W>) -> fmt::Result {
+        match self {
+            MapFault::StoreFault { before, after } => {
+                write!(f, "the device failed: {before} to {after}")
+            }
+            MapFault::BadMap { block } => write!(f, "block {block} is no map or page of its object"),
+            MapFault::NoSpace => f.write_str("no block is left"),
+            MapFault::NoMemory => f.write_str("no memory"),
+        }
+    }
+}
+
+impl Error for MapFault {}
+
+impl From<AllocError> for MapFault {
+    ghost use Rattle.std.specs.Prelude.{◌≡◌};
+    ghost use Rattle.iq_block_map.specs.declared.refs.MapFault.TheVariants as faults;
+
+    ghost from_gives = { λ _ e. e ≡ faults.NoMemory };
+
+    fn from(_: AllocError) -> MapFault {
+        MapFault::NoMemory
+    }
+}
+
+impl<T: Drop> From<AllocFailed<T>> for MapFault {
+    ghost use Rattle.std.specs.Prelude.{◌≡◌};
+    ghost use Rattle.iq_block_map.specs.declared.refs.MapFault.TheVariants as faults;
+
+    ghost from_gives = { λ _ e. e ≡ faults.NoMemory };
+
+    fn from(_: AllocFailed<T>) -> MapFault {
+        MapFault::NoMemory
+    }
+}

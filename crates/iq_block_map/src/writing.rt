@@ -1,0 +1,35 @@
+//! Writing blocks that were taken for it.
+ghost use Rattle.std.specs.Prelude.{◌≡◌, ◌⊎◌, ℕ, ◌∷◌, List, [], Some, IfOk, IfErr, slice_set};
+ghost use Rattle.iq_block_store.specs.Frames.{framed, map_kind};
+ghost use Rattle.iq_block_map.specs.Takers.{AreSpare};
+ghost use Rattle.iq_block_map.specs.Writing.{HasPut};
+ghost use Rattle.iq_block_map.specs.Causes.{IsPutFault};
+
+use crate::{MapFault, Taker};
+use iq_block_store::{BlockFault, Page, write};
+use iq_outside::Device;
+
+/// Takes a block and writes it. The level is that of a map, else 0.
+pub fn put<D: Device, T: Taker>(
+    disk: &mut D,
+    space: &mut T,
+    kind: u8,
+    level: u32,
+    payload: &Page,
+) -> Result<u32, MapFault>
+    requires spare { AreSpare (D.blocks disk.old) (T.left space.old) }
+    ensures put { HasPut D.blocks D.faults D.tells D.clock D.image (T.left space.old) (T.left space.new) disk.old disk.new }
+    ensures left { IfOk result (λ at. T.left space.old ≡ at ∷ T.left space.new) }
+    ensures block { IfOk result (λ at. (all : List (List ℕ)) → D.blocks disk.old ≡ Some all
+        → D.blocks disk.new ≡ Some (slice_set all at (framed kind at level payload.now))) }
+    ensures cause { IfErr result (λ e. IsPutFault e (T.left space.new) (D.faults disk.old) (D.faults disk.new)) }
+{
+    let Some(at) = space.take() else {
+        return Err(MapFault::NoSpace);
+    };
+    match write(disk, at, kind, level, payload) {
+        Ok(()) => Ok(at),
+        Err(BlockFault::StoreFault { before, after }) => Err(MapFault::StoreFault { before, after }),
+        Err(BlockFault::BadHeader { .. }) => unreachable!(),
+    }
+}
