@@ -4,3 +4,5 @@ pub mod ReadLemmas
 pub mod PutLemmas
 pub mod EditLemmas
 pub mod LeafLemmas
+pub mod StepLemmas
+pub mod NextLemmas
