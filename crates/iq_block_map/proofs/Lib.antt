@@ -6,3 +6,4 @@ pub mod EditLemmas
 pub mod LeafLemmas
 pub mod StepLemmas
 pub mod NextLemmas
+pub mod RewriteLemmas

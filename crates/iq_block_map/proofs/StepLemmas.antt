@@ -29,7 +29,7 @@ listed_same maps all now pages (l ∷ ls) size same =
     ∙ ap (joined (joined (Ok (front maps l)) (map_at all 1 (min 252 pages) l))) rest
 
 -- both parts of what was joined
-both_parts : (a b : Result (List ℕ) ℕ) (xs : List ℕ) → joined a b ≡ Ok xs → (ys : List ℕ) × (zs : List ℕ) × (a ≡ Ok ys) × (b ≡ Ok zs) × (xs ≡ ys ++ zs)
+pub both_parts : (a b : Result (List ℕ) ℕ) (xs : List ℕ) → joined a b ≡ Ok xs → (ys : List ℕ) × (zs : List ℕ) × (a ≡ Ok ys) × (b ≡ Ok zs) × (xs ≡ ys ++ zs)
 both_parts (Err e) b xs is = cc
 both_parts (Ok ys) (Err e) xs is = cc
 both_parts (Ok ys) (Ok zs) xs is = (ys, zs, refl, refl, cc)

@@ -1,0 +1,140 @@
+-- All leaves of an object, written anew where they changed.
+use Rattle.std.specs.Prelude.{◌≡◌, ◌≢◌, ◌⊎◌, ℕ, zero, suc, ◌+◌, ◌-◌, ◌*◌, ◌/◌, ◌^◌, ◌<◌, ◌≤◌, min, Bool, true, false, ◌&&◌, ◌||◌, List, [], ◌∷◌, ◌++◌, length, take, drop, replicate, nat_eq, slice_index, slice_index_or, slice_set, if◌then◌else◌, Result, Ok, Err, Option, Some, None}
+use Rattle.std.specs.List.{All, list_all, list_any, IsDistinct, fold}
+use Rattle.std.proofs.Common.{refl, sym, ap, subst, ◌∙◌, inl, inr, arith, append-nil, length-append, length-set, get_or-set_other, get_or-set_same}
+use Rattle.std.proofs.lemmas.List.{get_or-take, get_or-drop, length-take, length-drop, drop_all, take_all, get_or_append_left, get_or-append_right, get_or_past}
+use Rattle.std.proofs.lemmas.Bool.{and_parts, eq-eqb, ne_eqb, eqb-true, cases_lt, cases_eq}
+use Rattle.iq_outside.specs.Devices.{block_of, KeepsPast}
+use Rattle.iq_block_map.specs.declared.refs.Ref.{Ref}
+use Rattle.iq_block_map.specs.Maps.{places, is_address, are_places, is_map}
+use Rattle.iq_block_map.specs.Refs.{MayBe}
+use Rattle.iq_block_map.specs.Objects.{leaf_count, used_in, map_at, listed, joined}
+use Rattle.iq_block_map.specs.Takers.{AreSpare, taken_of}
+use Rattle.iq_block_map.specs.Writing.{holds, SameBeside, AddsBeside, HasPut}
+use Rattle.iq_block_map.specs.Editing.{piece, padded, fresh, leaf_at, edited, replaced_from, new_blocks, EndsLeaf, StaysLeaf, MakesLeaf, IsOpened, HasLeaves}
+use Rattle.iq_block_map.proofs.PutLemmas.{holds-append}
+use Rattle.iq_block_map.proofs.StepLemmas.{IsSoFar, so_far_more, listed_at, map_same, both_parts, piece_length}
+use Rattle.iq_block_map.proofs.NextLemmas.{distinct_parts, head_apart, stays_next, makes_next, behind_of}
+use Rattle.iq_block_map.proofs.ReadLemmas.{address_at}
+
+-- a device that tells its blocks now told them before
+pub put_told : {D : Type 0} (blocks : D → Option (List (List ℕ))) (faults : D → ℕ) (tells : D → Bool) (clock : D → ℕ)
+    (image : D → ℕ → List (List ℕ) → Type 0) (before after : List ℕ) (old new : D) (now : List (List ℕ))
+    → HasPut blocks faults tells clock image before after old new → blocks new ≡ Some now
+    → (all : List (List ℕ)) × (blocks old ≡ Some all) × SameBeside (taken_of before after) all now
+put_told blocks faults tells clock image before after old new now put told = go (blocks old) refl
+  where
+  go : (o : Option (List (List ℕ))) → blocks old ≡ o → (all : List (List ℕ)) × (blocks old ≡ Some all) × SameBeside (taken_of before after) all now
+  go None is = absurd (never (put.untold is))
+    where
+    never : blocks new ≡ None → ⊥
+    never not = cc (sym told ∙ not)
+  go (Some all) is =
+      let there = put.content all is in
+      (all, is, subst (SameBeside (taken_of before after) all) (one there.0 there.1) there.2)
+    where
+    one : (b : List (List ℕ)) → blocks new ≡ Some b → b ≡ now
+    one b other = cc
+
+distinct_after : (taken after : List ℕ) → IsDistinct nat_eq (taken ++ after) → IsDistinct nat_eq after
+distinct_after [] after are = are
+distinct_after (x ∷ taken) after are = distinct_after taken after (distinct_parts x (taken ++ after) are).1
+
+all_after : (P : ℕ → Type 0) (taken after : List ℕ) → All P (taken ++ after) → All P after
+all_after P taken after each k d within =
+    let at : slice_index_or (taken ++ after) (length taken + k) d ≡ slice_index_or after k d
+      = get_or-append_right taken after (length taken) (length taken + k) d refl (omega arith) ∙ ap (λ (n : ℕ). slice_index_or after n d) (omega arith) in
+    subst P at (each (length taken + k) d (omega (arith, within, length-append taken after)))
+
+-- what is left may still be taken
+pub spare_after : {D : Type 0} (blocks : D → Option (List (List ℕ))) (faults : D → ℕ) (tells : D → Bool) (clock : D → ℕ)
+    (image : D → ℕ → List (List ℕ) → Type 0) (before after : List ℕ) (old new : D) → AreSpare (blocks old) before
+    → HasPut blocks faults tells clock image before after old new → AreSpare (blocks new) after
+spare_after blocks faults tells clock image before after old new spare put = record {
+  distinct = distinct_after (taken_of before after) after (subst (IsDistinct nat_eq) put.left spare.distinct);
+  inside = λ now told.
+    let there = put_told blocks faults tells clock image before after old new now put told in
+    let each = spare.inside there.0 there.1 in
+    subst (λ (n : ℕ). All (λ b. is_address n b ≡ true) after) (sym there.2.size)
+      (all_after (λ b. is_address (length there.0) b ≡ true) (taken_of before after) after
+        (subst (All (λ b. is_address (length there.0) b ≡ true)) put.left each));
+}
+
+zero_at : (zs : List ℕ) (k : ℕ) → list_all (nat_eq 0) zs ≡ true → slice_index zs k ≡ 0
+zero_at [] k are = refl
+zero_at (z ∷ zs) zero are = sym (eqb-true 0 z (and_parts (nat_eq 0 z) (list_all (nat_eq 0) zs) are).0)
+zero_at (z ∷ zs) (suc k) are = zero_at zs k (and_parts (nat_eq 0 z) (list_all (nat_eq 0) zs) are).1
+
+-- a number of a map that isn't in use
+pub spare_zero : (count used k : ℕ) (ps : List ℕ) → MayBe count used ps → used ≤ k → slice_index ps k ≡ 0
+spare_zero count used k ps may past =
+    let shift : used + (k - used) ≡ k = omega (arith, past) in
+    ap (slice_index ps) (sym shift) ∙ sym (get_or-drop used ps (k - used) 0) ∙ zero_at (drop used ps) (k - used) (and_parts _ _ may.places).1
+
+-- the pages that a leaf had, read as the store is now
+pub old_leaf : (all now : List (List ℕ)) (old : Ref) (xs ls before taken : List ℕ) (k : ℕ) → IsOpened all old ls xs before → length xs ≡ old.pages
+    → old.pages ≤ 63504 → length now ≡ length all
+    → SameBeside taken all now → ((b : ℕ) → holds before b ≡ false → holds taken b ≡ false)
+    → leaf_at now (used_in (length xs) k) (slice_index ls k) ≡ Ok (piece k xs)
+old_leaf all now old xs ls before taken k opened count few size same free = elim (cases_lt (252 * k) (length xs)) [
+    inl some ↦
+      (let within : k < leaf_count old.pages = omega (arith, some, count) in
+      let fits : leaf_count old.pages ≤ 252 = omega (arith, few) in
+      let long : length (take (leaf_count old.pages) ls) ≡ leaf_count old.pages = length-take (leaf_count old.pages) ls ∙ omega (arith, opened.may.size, fits) in
+      let at : slice_index (take (leaf_count old.pages) ls) k ≡ slice_index ls k = get_or-take (leaf_count old.pages) ls k 0 within in
+      let read : map_at all 1 (used_in old.pages k) (slice_index (take (leaf_count old.pages) ls) k) ≡ Ok (piece k xs)
+        = listed_at all old.pages k (take (leaf_count old.pages) ls) xs opened.listed (omega (arith, long)) (omega (arith, within, long)) in
+      let apart : holds before (slice_index ls k) ≡ false
+        = ap (holds before) (sym at) ∙ opened.apart k 0 (omega (arith, within, long)) in
+      let block : block_of now (slice_index ls k) ≡ block_of all (slice_index ls k) = same.others (slice_index ls k) (free (slice_index ls k) apart) in
+      let used : nat_eq (used_in (length xs) k) 0 ≡ false = ne_eqb (used_in (length xs) k) 0 (omega (arith, some)) in
+      let here : map_at now 1 (used_in (length xs) k) (slice_index ls k) ≡ Ok (piece k xs)
+        = map_same all now 1 (used_in (length xs) k) (slice_index ls k) size block
+          ∙ ap (λ (n : ℕ). map_at all 1 (used_in n k) (slice_index ls k)) count
+          ∙ ap (map_at all 1 (used_in old.pages k)) (sym at) ∙ read in
+      rw used here)
+  | inr none ↦
+      (let used : nat_eq (used_in (length xs) k) 0 ≡ true = eq-eqb (used_in (length xs) k) 0 (omega (arith, none)) in
+      let empty : piece k xs ≡ [] = ap (take 252) (drop_all (252 * k) xs none) in
+      rw used (ap Ok (sym empty)))
+  ]
+
+-- one more leaf is done
+pub leaf_done : (all now now' : List (List ℕ)) (old : Ref) (xs ys ls ms before after after' taken : List ℕ) (k at made : ℕ)
+    → IsSoFar all now xs ys ls ms before after k → IsOpened all old ls xs before → length xs ≡ old.pages → old.pages ≤ 63504
+    → SameBeside taken all now → before ≡ taken ++ after → length all < 2 ^ 32 → length ms ≡ 252 → k < 252 → 252 * k < length ys
+    → at ≡ slice_index ls k → All (λ y. is_address (length all) y ≡ true) ys
+    → IsDistinct nat_eq after → All (λ b. is_address (length all) b ≡ true) after
+    → (leaf_at now (used_in (length xs) k) at ≡ Ok (piece k xs) → EndsLeaf now now' at made (piece k xs) (piece k ys) after after')
+    → IsSoFar all now' xs ys ls (slice_set ms k made) before after' (k + 1)
+leaf_done all now now' old xs ys ls ms before after after' taken k at made so_far opened count few same split small long place some at_is named distinct inside ends =
+    let free : (b : ℕ) → holds before b ≡ false → (holds taken b ≡ false) × (holds after b ≡ false)
+      = λ b none. holds-append taken after b (ap (λ (t : List ℕ). holds t b) (sym split) ∙ none) in
+    let read : leaf_at now (used_in (length xs) k) (slice_index ls k) ≡ Ok (piece k xs)
+      = old_leaf all now old xs ls before taken k opened count few so_far.size same (λ b none. (free b none).0) in
+    let read_at : leaf_at now (used_in (length xs) k) at ≡ Ok (piece k xs) = ap (leaf_at now (used_in (length xs) k)) at_is ∙ read in
+    let fits : leaf_count old.pages ≤ 252 = omega (arith, few) in
+    let address : 252 * k < length xs → is_address (length all) (slice_index ls k) ≡ true
+      = λ inside. address_at (length all) (leaf_count old.pages) k ls opened.may (omega (arith, inside, count)) fits in
+    let apart : 252 * k < length xs → holds after (slice_index ls k) ≡ false
+      = λ inside.
+        let within : k < leaf_count old.pages = omega (arith, inside, count) in
+        let size : length (take (leaf_count old.pages) ls) ≡ leaf_count old.pages = length-take (leaf_count old.pages) ls ∙ omega (arith, opened.may.size, fits) in
+        (free (slice_index ls k) (ap (holds before) (sym (get_or-take (leaf_count old.pages) ls k 0 within)) ∙ opened.apart k 0 (omega (arith, within, size)))).1 in
+    elim (ends read_at) [
+      inl stays ↦
+        (let next = stays_next all now now' xs ys ls ms after after' k at made at_is stays read_at some
+          (λ inside. ap (is_address (length all)) at_is ∙ address inside) (λ inside. ap (holds after) at_is ∙ apart inside) in
+        so_far_more all now now' xs ys ls ms before after after' k made (omega (arith, long, place)) place so_far next.1 next.0)
+    | inr makes ↦
+        (let other : slice_index ls k ≢ made = elim (cases_lt (252 * k) (length xs)) [
+            inl old_one ↦ (head_apart made (slice_index ls k) after' (ap (λ (t : List ℕ). holds t (slice_index ls k)) (sym makes.left) ∙ apart old_one)).0
+          | inr new_one ↦
+              (let none : slice_index ls k ≡ 0 = spare_zero (length all) (leaf_count old.pages) k ls opened.may (omega (arith, new_one, count)) in
+              let first : is_address (length all) made ≡ true
+                = ap (λ (t : List ℕ). is_address (length all) (slice_index t 0)) (sym makes.left) ∙ inside 0 0 (omega (arith, ap length makes.left)) in
+              λ same_one. absurd (omega (arith, none, same_one, behind_of (length all) made first)))
+          ] in
+        let next = makes_next all now now' xs ys ls ms after after' k made so_far.size small makes named distinct inside other so_far.apart in
+        so_far_more all now now' xs ys ls ms before after after' k made (omega (arith, long, place)) place so_far next.1 next.0)
+    ]
