@@ -5,7 +5,8 @@ use Rattle.std.proofs.Common.{refl, sym, ap, subst, ◌∙◌, inl, inr, arith, 
 use Rattle.std.proofs.lemmas.List.{take_more, take_at, drop_at, take_all, drop_all, take-append-le, drop-append-le, take-append-drop, length-take, length-drop, length-replicate, drop-replicate, take_min, drop_min, set-append_left, set-append_right, drop-drop}
 use Rattle.std.proofs.lemmas.List.Sums.{fold-append}
 use Rattle.std.proofs.lemmas.Bool.{cases_lt, lt-ltb, le-ltb}
-use Rattle.iq_block_map.specs.Editing.{replaced_from, edited, piece, padded, AreChanges}
+use Rattle.iq_block_map.specs.Objects.{used_in}
+use Rattle.iq_block_map.specs.Editing.{below, replaced_from, edited, piece, padded, AreChanges}
 
 abbrev change_one : ℕ → List ℕ → ℕ × ℕ → List ℕ
 change_one first ys c = slice_set ys (c.0 - first) c.1
@@ -56,9 +57,6 @@ changes_from : (first first' end : ℕ) (cs : List (ℕ × ℕ)) → first' ≤ 
 changes_from first first' end [] less are = tt
 changes_from first first' end ((n, a) ∷ cs) less are = (omega (arith, less, are.0), are.1, are.2)
 
-abbrev pub below : ℕ → ℕ × ℕ → Bool
-below end c = nat_lt c.0 end
-
 -- no change is below where all are past it
 none_below : (first end mid : ℕ) (cs : List (ℕ × ℕ)) → mid ≤ first → AreChanges first end cs → prefix_len (below mid) cs ≡ 0
 none_below first end mid [] past are = refl
@@ -107,7 +105,7 @@ replaced_pieces first xs ys ((n, a) ∷ here) later end last are within past =
     ∙ ap (λ (m : ℕ). replaced_from first (slice_set xs (n - first) a) here ++ replaced_from (first + m) ys later) size
 
 -- changes past the end of all pages are none
-no_changes : (first end : ℕ) (cs : List (ℕ × ℕ)) → end ≤ first → AreChanges first end cs → cs ≡ []
+pub no_changes : (first end : ℕ) (cs : List (ℕ × ℕ)) → end ≤ first → AreChanges first end cs → cs ≡ []
 no_changes first end [] over are = refl
 no_changes first end ((n, a) ∷ cs) over are = absurd (omega (arith, over, are.0, are.1))
 
@@ -188,3 +186,56 @@ cut_piece first xs cs added are =
         let none : min (length added) (252 - min 252 (length xs)) ≡ 0 = omega (arith, full) in
         rw none (cut_full first (first + length xs) p xs cs added (omega (arith, full)) (rw end at cut.0) cut.1))
     ]
+
+changes_end : (first end : ℕ) (cs : List (ℕ × ℕ)) → AreChanges first end cs → AreChanges first (first + (end - first)) cs
+changes_end first end cs are = elim (cases_lt first end) [
+    inl some ↦ (let same : end ≡ first + (end - first) = omega (arith, some) in subst (λ (n : ℕ). AreChanges first n cs) same are)
+  | inr none ↦ (let empty : cs ≡ [] = no_changes first end cs none are in rw empty tt)
+  ]
+
+-- a piece of the edited pages, and what is still to be edited behind it
+pub record PieceAt (k pages : ℕ) (xs ys : List ℕ) (cs : List (ℕ × ℕ)) (added : List ℕ) (p m : ℕ) : Type 0 where
+  pub here : piece k ys ≡ replaced_from (252 * k) (piece k xs) (take p cs) ++ take m added
+  pub later : drop (252 * (k + 1)) ys ≡ replaced_from (252 * (k + 1)) (drop (252 * (k + 1)) xs) (drop p cs) ++ drop m added
+
+pub piece_at : (k pages : ℕ) (xs ys : List ℕ) (cs : List (ℕ × ℕ)) (added : List ℕ) → length xs ≡ pages → AreChanges (252 * k) pages cs
+    → drop (252 * k) ys ≡ replaced_from (252 * k) (drop (252 * k) xs) cs ++ added
+    → PieceAt k pages xs ys cs added (prefix_len (below (252 * (k + 1))) cs) (min (length added) (252 - used_in pages k))
+piece_at k pages xs ys cs added size are rest =
+    let first = 252 * k in
+    let left = drop first xs in
+    let next : first + 252 ≡ 252 * (k + 1) = omega arith in
+    let left_size : length left ≡ pages - first = length-drop first xs ∙ ap (λ (n : ℕ). n - first) size in
+    let within : AreChanges first (first + length left) cs
+      = subst (λ (n : ℕ). AreChanges first (first + n) cs) (sym left_size) (changes_end first pages cs are) in
+    let room : 252 - min 252 (length left) ≡ 252 - used_in pages k = ap (λ (n : ℕ). 252 - min 252 n) left_size in
+    let cut : CutPiece first left cs added (prefix_len (below (252 * (k + 1))) cs) (min (length added) (252 - used_in pages k))
+      = subst (λ (n : ℕ). CutPiece first left cs added (prefix_len (below n) cs) (min (length added) (252 - used_in pages k))) next
+        (subst (λ (n : ℕ). CutPiece first left cs added (prefix_len (below (first + 252)) cs) (min (length added) n)) room (cut_piece first left cs added within)) in
+    let p = prefix_len (below (252 * (k + 1))) cs in
+    let m = min (length added) (252 - used_in pages k) in
+    let behind : (zs : List ℕ) → drop 252 (drop first zs) ≡ drop (252 * (k + 1)) zs
+      = λ zs. drop-drop 252 first zs ∙ ap (λ (n : ℕ). drop n zs) next in
+    record {
+      here = ap (take 252) rest ∙ cut.here;
+      later =
+        sym (behind ys) ∙ ap (drop 252) rest ∙ cut.later
+        ∙ ap (λ (n : ℕ). replaced_from n (drop 252 left) (drop p cs) ++ drop m added) next
+        ∙ ap (λ (t : List ℕ). replaced_from (252 * (k + 1)) t (drop p cs) ++ drop m added) (behind xs);
+    }
+
+pub length-edited : (xs : List ℕ) (cs : List (ℕ × ℕ)) (added : List ℕ) → length (edited xs cs added) ≡ length xs + length added
+length-edited xs cs added = length-append (replaced_from 0 xs cs) added ∙ ap (λ (n : ℕ). n + length added) (length-replaced 0 xs cs)
+
+pub edited_start : (xs : List ℕ) (cs : List (ℕ × ℕ)) (added : List ℕ)
+    → drop (252 * 0) (edited xs cs added) ≡ replaced_from (252 * 0) (drop (252 * 0) xs) cs ++ added
+edited_start xs cs added =
+    let none : 252 * 0 ≡ 0 = omega arith in
+    rw none refl
+
+pub prefix_few : (mid : ℕ) (cs : List (ℕ × ℕ)) → prefix_len (below mid) cs ≤ length cs
+prefix_few mid [] = omega arith
+prefix_few mid (c ∷ cs) = elim (cases_lt c.0 mid) [
+    inl before ↦ (let rest = prefix_few mid cs in omega (arith, rest, prefix_hit mid c cs (lt-ltb c.0 mid before)))
+  | inr past ↦ omega (arith, prefix_miss mid c cs (le-ltb c.0 mid (omega (arith, past))))
+  ]

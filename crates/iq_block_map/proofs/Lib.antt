@@ -7,3 +7,4 @@ pub mod LeafLemmas
 pub mod StepLemmas
 pub mod NextLemmas
 pub mod RewriteLemmas
+pub mod NamedLemmas

@@ -1,5 +1,5 @@
 -- What was read of maps and pages.
-use Rattle.std.specs.Prelude.{◌≡◌, ℕ, zero, suc, ◌+◌, ◌*◌, ◌-◌, ◌/◌, ◌%◌, ◌<◌, ◌≤◌, min, Bool, true, ◌&&◌, List, [], ◌∷◌, ◌++◌, length, take, drop, slice_index, Option, Some}
+use Rattle.std.specs.Prelude.{◌≡◌, ℕ, zero, suc, ◌+◌, ◌*◌, ◌-◌, ◌/◌, ◌%◌, ◌<◌, ◌≤◌, min, Bool, true, ◌&&◌, List, [], ◌∷◌, ◌++◌, length, take, drop, slice_index, Option, Some, Result, Ok, Err, IfErr}
 use Rattle.std.specs.List.{list_all}
 use Rattle.std.proofs.Common.{refl, sym, ap, ◌∙◌, arith}
 use Rattle.std.proofs.lemmas.List.{get_or-take, length-take}
@@ -10,7 +10,7 @@ use Rattle.iq_block_store.specs.Frames.{has_header, payload_of}
 use Rattle.iq_block_map.specs.Maps.{page_kind, is_address}
 use Rattle.iq_block_map.specs.Refs.{MayBe}
 use Rattle.iq_block_map.specs.Objects.{HoldsPage}
-use Rattle.iq_block_map.specs.Causes.{IsReadFault, IsWalkFault}
+use Rattle.iq_block_map.specs.Causes.{IsReadFault, IsWalkFault, IsEditFault}
 use Rattle.iq_block_map.specs.declared.refs.MapFault.{MapFault}
 use Rattle.iq_block_map.specs.declared.refs.MapFault.TheVariants.{StoreFault, BadMap, NoSpace, NoMemory}
 
@@ -58,3 +58,33 @@ walk_fault_on P Q (StoreFault before after) told told' first first' last last' s
 walk_fault_on P Q (BadMap block) told told' first first' last last' same early late pass bad = λ all is. pass block all is (bad all (same ∙ is))
 walk_fault_on P Q NoSpace told told' first first' last last' same early late pass bad = absurd bad
 walk_fault_on P Q NoMemory told told' first first' last last' same early late pass bad = tt
+
+-- the same of what fails after something was written
+pub edit_fault_on : (P Q : ℕ → List (List ℕ) → Type 0) (e : MapFault) (told told' : Option (List (List ℕ))) (left : List ℕ) (first first' last last' : ℕ)
+    → first ≤ first' → last' ≤ last
+    → ((b : ℕ) (all : List (List ℕ)) → told ≡ Some all → (now : List (List ℕ)) × (told' ≡ Some now) × (P b now → Q b all))
+    → IsEditFault P e told' left first' last' → IsEditFault Q e told left first last
+edit_fault_on P Q (StoreFault before after) told told' left first first' last last' early late pass rose =
+    record { since = omega (arith, early, rose.since); risen = rose.risen; until = omega (arith, late, rose.until) }
+edit_fault_on P Q (BadMap block) told told' left first first' last last' early late pass bad =
+    λ all is. let there = pass block all is in there.2 (bad there.0 there.1)
+edit_fault_on P Q NoSpace told told' left first first' last last' early late pass bad = bad
+edit_fault_on P Q NoMemory told told' left first first' last last' early late pass bad = bad
+
+-- a fault of reading is one of editing
+pub read_fault_edits : (P Q : ℕ → List (List ℕ) → Type 0) (e : MapFault) (told told' : Option (List (List ℕ))) (left : List ℕ) (first first' last last' : ℕ)
+    → told' ≡ told → first ≤ first' → last' ≤ last → ((b : ℕ) (all : List (List ℕ)) → told ≡ Some all → P b all → Q b all)
+    → IsReadFault P e told' first' last' → IsEditFault Q e told left first last
+read_fault_edits P Q (StoreFault before after) told told' left first first' last last' same early late pass rose =
+    record { since = omega (arith, early, rose.since); risen = rose.risen; until = omega (arith, late, rose.until) }
+read_fault_edits P Q (BadMap block) told told' left first first' last last' same early late pass bad = λ all is. pass block all is (bad all (same ∙ is))
+read_fault_edits P Q NoSpace told told' left first first' last last' same early late pass bad = absurd bad
+read_fault_edits P Q NoMemory told told' left first first' last last' same early late pass bad = bad
+
+-- a cause that says as much in other words
+pub read_cause : {T : Type 0} (P Q : ℕ → List (List ℕ) → Type 0) (r : Result T MapFault) (told : Option (List (List ℕ))) (first last : ℕ)
+    → ((b : ℕ) (all : List (List ℕ)) → P b all → Q b all)
+    → IfErr r (λ e. IsReadFault P e told first last) → IfErr r (λ e. IsReadFault Q e told first last)
+read_cause P Q (Ok x) told first last pass cause = tt
+read_cause P Q (Err e) told first last pass cause =
+    read_fault_on P Q e told told first first last last refl (omega arith) (omega arith) (λ b all is. pass b all) cause

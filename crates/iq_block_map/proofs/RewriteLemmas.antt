@@ -2,7 +2,7 @@
 use Rattle.std.specs.Prelude.{◌≡◌, ◌≢◌, ◌⊎◌, ℕ, zero, suc, ◌+◌, ◌-◌, ◌*◌, ◌/◌, ◌^◌, ◌<◌, ◌≤◌, min, Bool, true, false, ◌&&◌, ◌||◌, List, [], ◌∷◌, ◌++◌, length, take, drop, replicate, nat_eq, slice_index, slice_index_or, slice_set, if◌then◌else◌, Result, Ok, Err, Option, Some, None}
 use Rattle.std.specs.List.{All, list_all, list_any, IsDistinct, fold}
 use Rattle.std.proofs.Common.{refl, sym, ap, subst, ◌∙◌, inl, inr, arith, append-nil, length-append, length-set, get_or-set_other, get_or-set_same}
-use Rattle.std.proofs.lemmas.List.{get_or-take, get_or-drop, length-take, length-drop, drop_all, take_all, get_or_append_left, get_or-append_right, get_or_past}
+use Rattle.std.proofs.lemmas.List.{get_or-take, get_or-drop, length-take, length-drop, drop_all, take_all, drop-drop, drop-set-lt, get_or_append_left, get_or-append_right, get_or_past}
 use Rattle.std.proofs.lemmas.Bool.{and_parts, eq-eqb, ne_eqb, eqb-true, cases_lt, cases_eq}
 use Rattle.iq_outside.specs.Devices.{block_of, KeepsPast}
 use Rattle.iq_block_map.specs.declared.refs.Ref.{Ref}
@@ -11,7 +11,7 @@ use Rattle.iq_block_map.specs.Refs.{MayBe}
 use Rattle.iq_block_map.specs.Objects.{leaf_count, used_in, map_at, listed, joined}
 use Rattle.iq_block_map.specs.Takers.{AreSpare, taken_of}
 use Rattle.iq_block_map.specs.Writing.{holds, SameBeside, AddsBeside, HasPut}
-use Rattle.iq_block_map.specs.Editing.{piece, padded, fresh, leaf_at, edited, replaced_from, new_blocks, EndsLeaf, StaysLeaf, MakesLeaf, IsOpened, HasLeaves}
+use Rattle.iq_block_map.specs.Editing.{piece, padded, fresh, leaf_at, edited, replaced_from, new_blocks, EndsLeaf, StaysLeaf, MakesLeaf, IsOpened, AreOpened, IsBadLeaf, HasLeaves, HasLeavesAt}
 use Rattle.iq_block_map.proofs.PutLemmas.{holds-append}
 use Rattle.iq_block_map.proofs.StepLemmas.{IsSoFar, so_far_more, listed_at, map_same, both_parts, piece_length}
 use Rattle.iq_block_map.proofs.NextLemmas.{distinct_parts, head_apart, stays_next, makes_next, behind_of}
@@ -138,3 +138,81 @@ leaf_done all now now' old xs ys ls ms before after after' taken k at made so_fa
         let next = makes_next all now now' xs ys ls ms after after' k made so_far.size small makes named distinct inside other so_far.apart in
         so_far_more all now now' xs ys ls ms before after after' k made (omega (arith, long, place)) place so_far next.1 next.0)
     ]
+
+-- a leaf that wasn't touched
+pub untouched_at : (ls ms : List ℕ) (k : ℕ) → drop k ms ≡ drop k ls → slice_index ms k ≡ slice_index ls k
+untouched_at ls ms k same =
+    let here : k + 0 ≡ k = omega arith in
+    ap (slice_index ms) (sym here) ∙ sym (get_or-drop k ms 0 0) ∙ ap (λ (t : List ℕ). slice_index t 0) same
+    ∙ get_or-drop k ls 0 0 ∙ ap (slice_index ls) here
+
+pub untouched_more : (ls ms : List ℕ) (k made : ℕ) → drop k ms ≡ drop k ls → drop (k + 1) (slice_set ms k made) ≡ drop (k + 1) ls
+untouched_more ls ms k made same =
+    drop-set-lt (k + 1) ms k made (omega arith) ∙ sym (drop-drop 1 k ms) ∙ ap (drop 1) same ∙ drop-drop 1 k ls
+
+all_by_place : (p : ℕ → Bool) (n : ℕ) (ms : List ℕ) → ((j : ℕ) → j < n → p (slice_index ms j) ≡ true) → n ≤ length ms → list_all p (take n ms) ≡ true
+all_by_place p zero ms each long = refl
+all_by_place p (suc n) [] each long = absurd (omega (arith, long))
+all_by_place p (suc n) (m ∷ ms) each long =
+    let head : p m ≡ true = each 0 (omega arith) in
+    let rest : list_all p (take n ms) ≡ true = all_by_place p n ms (λ j within. each (suc j) (omega (arith, within))) (omega (arith, long)) in
+    rw (head, rest) refl
+
+all_behind : (p : ℕ → Bool) (n : ℕ) (xs : List ℕ) → list_all p xs ≡ true → list_all p (drop n xs) ≡ true
+all_behind p zero xs pass = pass
+all_behind p (suc n) [] pass = refl
+all_behind p (suc n) (x ∷ xs) pass = all_behind p n xs (and_parts (p x) (list_all p xs) pass).1
+
+-- all leaves are done
+pub leaves_done : (all now : List (List ℕ)) (old : Ref) (xs ys ls ms before after : List ℕ) (k : ℕ) → IsSoFar all now xs ys ls ms before after k
+    → IsOpened all old ls xs before → k ≡ leaf_count (length ys) → old.pages ≤ length ys → length ys ≤ 63504 → length ms ≡ 252
+    → drop k ms ≡ drop k ls → HasLeaves all now ls ms xs ys before after
+leaves_done all now old xs ys ls ms before after k so_far opened end grown few long rest =
+    let fits : k ≤ 252 = omega (arith, end, few) in
+    let whole : take (252 * k) ys ≡ ys = take_all (252 * k) ys (omega (arith, end)) in
+    let over : leaf_count old.pages + (k - leaf_count old.pages) ≡ k = omega (arith, end, grown) in
+    let zeros : list_all (nat_eq 0) (drop k ms) ≡ true
+      = ap (list_all (nat_eq 0)) (rest ∙ ap (λ (n : ℕ). drop n ls) (sym over) ∙ sym (drop-drop (k - leaf_count old.pages) (leaf_count old.pages) ls))
+        ∙ all_behind (nat_eq 0) (k - leaf_count old.pages) (drop (leaf_count old.pages) ls) (and_parts _ _ opened.may.places).1 in
+    let named : list_all (is_address (length all)) (take k ms) ≡ true
+      = all_by_place (is_address (length all)) k ms so_far.named (omega (arith, fits, long)) in
+    subst (λ (n : ℕ). HasLeavesAt all now ls ms xs ys before after n) end record {
+      may = record { size = long; places = rw (named, zeros) refl };
+      listed = so_far.listed ∙ ap Ok whole;
+      taken = so_far.taken;
+      shares = so_far.shares;
+      differs = so_far.differs;
+      rest = rest;
+    }
+
+-- a leaf that isn't right wasn't before
+pub bad_leaf : (all now : List (List ℕ)) (old : Ref) (ls before taken after : List ℕ) (k b at used : ℕ) → AreOpened all old ls before
+    → SameBeside taken all now → before ≡ taken ++ after → old.pages ≤ 63504 → used ≡ used_in old.pages k → at ≡ slice_index ls k → b ≡ at
+    → leaf_at now used at ≡ Err at → IsBadLeaf old ls b all
+bad_leaf all now old ls before taken after k b at used opened same split few used_is at_is b_is bad = elim (cases_eq used 0) [
+    inl none ↦ absurd (never (eq-eqb used 0 none) bad)
+  | inr some ↦
+      (let within : k < leaf_count old.pages = omega (arith, some, used_is) in
+      let fits : leaf_count old.pages ≤ 252 = omega (arith, few) in
+      let size : length (take (leaf_count old.pages) ls) ≡ leaf_count old.pages = length-take (leaf_count old.pages) ls ∙ omega (arith, opened.may.size, fits) in
+      let apart : holds before (slice_index ls k) ≡ false
+        = ap (holds before) (sym (get_or-take (leaf_count old.pages) ls k 0 within)) ∙ opened.apart k 0 (omega (arith, within, size)) in
+      let free = holds-append taken after (slice_index ls k) (ap (λ (t : List ℕ). holds t (slice_index ls k)) (sym split) ∙ apart) in
+      let map : map_at now 1 used at ≡ Err at = read (ne_eqb used 0 some) bad in
+      record {
+        k = k;
+        within = within;
+        bad =
+          ap (λ (n : ℕ). map_at all 1 n (slice_index ls k)) (sym used_is)
+          ∙ sym (map_same all now 1 used (slice_index ls k) same.size (same.others (slice_index ls k) free.0))
+          ∙ ap (map_at now 1 used) (sym at_is) ∙ map ∙ ap Err (sym b_is);
+      })
+  ]
+  where
+  never : nat_eq used 0 ≡ true → leaf_at now used at ≡ Err at → ⊥
+  never none is = no_err (rw none at is)
+    where
+    no_err : ◌≡◌ {A = Result (List ℕ) ℕ} (Ok []) (Err at) → ⊥
+    no_err wrong = cc
+  read : nat_eq used 0 ≡ false → leaf_at now used at ≡ Err at → map_at now 1 used at ≡ Err at
+  read some is = rw some at is

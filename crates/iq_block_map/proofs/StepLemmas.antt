@@ -57,7 +57,7 @@ listed_push all pages at (l ∷ ls) xs ys is here =
     joined_ok (joined (Ok []) (map_at all 1 (min 252 pages) l)) (listed false all (pages - 252) (ls ++ at ∷ [])) parts.0 (parts.1 ++ ys) parts.2 rest
     ∙ ap Ok (sym (append_assoc parts.0 parts.1 ys) ∙ ap (λ (t : List ℕ). t ++ ys) (sym parts.4))
 
-length_map : (all : List (List ℕ)) (level used at : ℕ) (xs : List ℕ) → map_at all level used at ≡ Ok xs → used ≤ 252 → length xs ≡ used
+pub length_map : (all : List (List ℕ)) (level used at : ℕ) (xs : List ℕ) → map_at all level used at ≡ Ok xs → used ≤ 252 → length xs ≡ used
 length_map all level used at xs is few = length_if (is_map (length all) level used at (block_of all at)) is
   where
   length_if : (b : Bool) → (if b then Ok (take used (places (block_of all at))) else Err at) ≡ Ok xs → length xs ≡ used

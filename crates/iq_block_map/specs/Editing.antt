@@ -1,5 +1,5 @@
 -- Objects that share what didn't change.
-use Rattle.std.specs.Prelude.{◌≡◌, ◌≢◌, ◌⊎◌, ℕ, ◌+◌, ◌-◌, ◌*◌, ◌<◌, ◌≤◌, true, false, List, [], ◌∷◌, ◌++◌, length, take, drop, replicate, nat_eq, if◌then◌else◌, slice_index, slice_set, Result, Ok, Err, Option, Some}
+use Rattle.std.specs.Prelude.{◌≡◌, ◌≢◌, ◌⊎◌, ℕ, ◌+◌, ◌-◌, ◌*◌, ◌<◌, ◌≤◌, true, false, List, [], ◌∷◌, ◌++◌, length, take, drop, replicate, nat_eq, nat_lt, Bool, if◌then◌else◌, slice_index, slice_set, Result, Ok, Err, Option, Some}
 use Rattle.std.specs.List.{All, fold}
 use Rattle.iq_outside.specs.Devices.{block_of}
 use Rattle.iq_block_map.specs.declared.refs.Ref.{Ref}
@@ -15,6 +15,10 @@ replaced_from first xs changed = fold (λ (ys : List ℕ) (c : ℕ × ℕ). slic
 -- pages with some replaced and others added
 abbrev pub edited : List ℕ → List (ℕ × ℕ) → List ℕ → List ℕ
 edited xs changed added = replaced_from 0 xs changed ++ added
+
+-- whether a change is of a page before one
+abbrev pub below : ℕ → ℕ × ℕ → Bool
+below end c = nat_lt c.0 end
 
 -- the pages of one leaf
 abbrev pub piece : ℕ → List ℕ → List ℕ
@@ -68,14 +72,17 @@ pub record IsBadLeaf (object : Ref) (ps : List ℕ) (block : ℕ) (all : List (L
   pub within : k < leaf_count object.pages
   pub bad : map_at all 1 (used_in object.pages k) (slice_index ps k) ≡ Err block
 
--- a map's numbers are leaves of some pages, made of those of others
-pub record HasLeaves (all now : List (List ℕ)) (ls ms xs ys before after : List ℕ) : Type 0 where
-  pub may : MayBe (length all) (leaf_count (length ys)) ms
-  pub listed : listed false now (length ys) (take (leaf_count (length ys)) ms) ≡ Ok ys
-  pub taken : before ≡ fresh ls (take (leaf_count (length ys)) ms) ++ after
-  pub shares : (k : ℕ) → k < leaf_count (length ys) → piece k ys ≡ piece k xs → slice_index ms k ≡ slice_index ls k
-  pub differs : (k : ℕ) → k < leaf_count (length ys) → slice_index ms k ≡ slice_index ls k → piece k ys ≡ piece k xs
-  pub rest : drop (leaf_count (length ys)) ms ≡ drop (leaf_count (length ys)) ls
+-- so many numbers of a map are leaves of some pages, made of those of others
+pub record HasLeavesAt (all now : List (List ℕ)) (ls ms xs ys before after : List ℕ) (n : ℕ) : Type 0 where
+  pub may : MayBe (length all) n ms
+  pub listed : listed false now (length ys) (take n ms) ≡ Ok ys
+  pub taken : before ≡ fresh ls (take n ms) ++ after
+  pub shares : (k : ℕ) → k < n → piece k ys ≡ piece k xs → slice_index ms k ≡ slice_index ls k
+  pub differs : (k : ℕ) → k < n → slice_index ms k ≡ slice_index ls k → piece k ys ≡ piece k xs
+  pub rest : drop n ms ≡ drop n ls
+
+abbrev pub HasLeaves : List (List ℕ) → List (List ℕ) → List ℕ → List ℕ → List ℕ → List ℕ → List ℕ → List ℕ → Type 0
+HasLeaves all now ls ms xs ys before after = HasLeavesAt all now ls ms xs ys before after (leaf_count (length ys))
 
 -- an object with some pages became one with others
 pub record HasRemapped (all now : List (List ℕ)) (old new : Ref) (xs ys before after : List ℕ) : Type 0 where

@@ -5,7 +5,7 @@ ghost use Rattle.iq_block_map.specs.Refs.{IsIn, MayBe};
 ghost use Rattle.iq_block_map.specs.Objects.{leaf_count, used_in, map_at, leaves_of, addresses_of, pages_of};
 ghost use Rattle.iq_block_map.specs.Takers.{AreSpare};
 ghost use Rattle.iq_block_map.specs.Writing.{HasPut};
-ghost use Rattle.iq_block_map.specs.Editing.{replaced_from, edited, padded, leaf_at, AreChanges, AreBlocks, AreApart, new_blocks, HasRemapped, EndsLeaf, IsNowIn, IsBadMap, IsOpened, AreOpened, IsBadLeaf, HasLeaves};
+ghost use Rattle.iq_block_map.specs.Editing.{below, replaced_from, edited, padded, leaf_at, AreChanges, AreBlocks, AreApart, new_blocks, HasRemapped, EndsLeaf, IsNowIn, IsBadMap, IsOpened, AreOpened, IsBadLeaf, HasLeaves};
 ghost use Rattle.iq_block_map.specs.Causes.{IsEditFault, IsReadFault};
 ghost use Rattle.iq_block_store.specs.Looks.{HasLooked};
 ghost use Rattle.std.specs.List.{prefix_len};
@@ -79,6 +79,7 @@ fn rewrite_leaves<D: Device, T: Taker>(
     added: &[u32],
 ) -> Result<Places, MapFault>
     requires count { (all : List (List ℕ)) → D.blocks disk.old ≡ Some all → count ≡ length all }
+    requires before { (all : List (List ℕ)) → D.blocks disk.old ≡ Some all → MayBe (length all) (leaf_count old.pages) before.now }
     requires changes { AreChanges 0 old.pages changed.now }
     requires most { old.pages + length added.now ≤ 63504 }
     requires changed { AreBlocks (D.blocks disk.old) (new_blocks changed.now) }
@@ -92,26 +93,26 @@ fn rewrite_leaves<D: Device, T: Taker>(
         e (D.blocks disk.old) (T.left space.new) (D.faults disk.old) (D.faults disk.new)) }
 {
     let mut leaves = *before;
-    let mut changed = changed;
-    let mut added = added;
+    let mut to_change = changed;
+    let mut to_add = added;
     for k in 0..leaf_count(old.pages + added.len() as u32) {
         let leaf = Leaf {
             at: leaves[k as usize],
             first: 252 * k,
             used: used_in(old.pages, k),
         };
-        let (here, later) = changed.split_at(count_below(changed, 252 * (k + 1)));
-        let (more, rest) = added.split_at(added.len().min(ROOM - leaf.used));
+        let (here, later) = to_change.split_at(count_below(to_change, 252 * (k + 1)));
+        let (more, rest) = to_add.split_at(to_add.len().min(ROOM - leaf.used));
         leaves[k as usize] = rewrite_leaf(disk, space, count, leaf, here, more)?;
-        changed = later;
-        added = rest;
+        to_change = later;
+        to_add = rest;
     }
     Ok(leaves)
 }
 
 /// How many changes are of pages below one.
 fn count_below(changed: &[(u32, u32)], end: u32) -> usize
-    ensures { result ≡ prefix_len (λ (c : ℕ × ℕ). nat_lt c.0 end) changed.now }
+    ensures { result ≡ prefix_len (below end) changed.now }
 {
     changed.iter().take_while(|c| c.0 < end).count()
 }
@@ -135,7 +136,7 @@ fn rewrite_leaf<D: Device, T: Taker>(
     ensures ok { IfOk result (λ made. (all : List (List ℕ)) (xs : List ℕ) → D.blocks disk.old ≡ Some all
         → leaf_at all leaf.used leaf.at ≡ Ok xs
         → IsNowIn (λ now. EndsLeaf all now leaf.at made xs (replaced_from leaf.first xs here.now ++ more.now) (T.left space.old) (T.left space.new)) (D.blocks disk.new)) }
-    ensures cause { IfErr result (λ e. IsEditFault (λ b all. (b ≡ leaf.at) × (map_at all 1 leaf.used leaf.at ≡ Err leaf.at))
+    ensures cause { IfErr result (λ e. IsEditFault (λ b all. (b ≡ leaf.at) × (leaf_at all leaf.used leaf.at ≡ Err leaf.at))
         e (D.blocks disk.old) (T.left space.new) (D.faults disk.old) (D.faults disk.new)) }
 {
     if here.is_empty() && more.is_empty() {
@@ -159,7 +160,7 @@ fn read_leaf<D: Device>(disk: &mut D, count: u32, leaf: Leaf) -> Result<Places, 
     ensures ok { IfOk result (λ ps. (all : List (List ℕ)) → D.blocks disk.old ≡ Some all
         → leaf_at all leaf.used leaf.at ≡ Ok (take leaf.used ps)) }
     ensures padded { IfOk result (λ ps. ps ≡ padded (take leaf.used ps)) }
-    ensures cause { IfErr result (λ e. IsReadFault (λ b all. (b ≡ leaf.at) × (map_at all 1 leaf.used leaf.at ≡ Err leaf.at))
+    ensures cause { IfErr result (λ e. IsReadFault (λ b all. (b ≡ leaf.at) × (leaf_at all leaf.used leaf.at ≡ Err leaf.at))
         e (D.blocks disk.old) (D.faults disk.old) (D.faults disk.new)) }
 {
     if leaf.used == 0 {

@@ -1,4 +1,3 @@
-use Rattle.iq_block_map.proofs.RewriteLemmas.{leaf_done}
 use Rattle.std.proofs.Common.{rules, arith, refl, sym, ◌∙◌, inl}
 use Rattle.iq_block_map.specs.Editing.{replaced_from, leaf_at}
 use Rattle.iq_block_map.proofs.EditLemmas.{length-replaced}
