@@ -8,3 +8,4 @@ pub mod StepLemmas
 pub mod NextLemmas
 pub mod RewriteLemmas
 pub mod NamedLemmas
+pub mod TopLemmas

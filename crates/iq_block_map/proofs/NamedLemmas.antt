@@ -44,7 +44,7 @@ pub all_edited : (P : ℕ → Type 0) (xs : List ℕ) (cs : List (ℕ × ℕ)) (
     → All P (edited xs cs added)
 all_edited P xs cs added each new more = all_append P (replaced_from 0 xs cs) added (all_replaced P 0 xs cs each new) more
 
-each_of : (p : ℕ → Bool) (xs : List ℕ) → list_all p xs ≡ true → All (λ x. p x ≡ true) xs
+pub each_of : (p : ℕ → Bool) (xs : List ℕ) → list_all p xs ≡ true → All (λ x. p x ≡ true) xs
 each_of p [] pass k d within = absurd (omega (arith, within))
 each_of p (x ∷ xs) pass zero d within = (and_parts (p x) (list_all p xs) pass).0
 each_of p (x ∷ xs) pass (suc k) d within = each_of p xs (and_parts (p x) (list_all p xs) pass).1 k d (omega (arith, within))

@@ -182,6 +182,7 @@ leaves_done all now old xs ys ls ms before after k so_far opened end grown few l
       taken = so_far.taken;
       shares = so_far.shares;
       differs = so_far.differs;
+      apart = so_far.apart;
       rest = rest;
     }
 

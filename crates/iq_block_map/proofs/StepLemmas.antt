@@ -34,7 +34,7 @@ both_parts (Err e) b xs is = cc
 both_parts (Ok ys) (Err e) xs is = cc
 both_parts (Ok ys) (Ok zs) xs is = (ys, zs, refl, refl, cc)
 
-ok_is : (xs ys : List ℕ) (r : Result (List ℕ) ℕ) → r ≡ Ok xs → r ≡ Ok ys → xs ≡ ys
+pub ok_is : (xs ys : List ℕ) (r : Result (List ℕ) ℕ) → r ≡ Ok xs → r ≡ Ok ys → xs ≡ ys
 ok_is xs ys r a b = cc
 
 joined_ok : (a b : Result (List ℕ) ℕ) (ys zs : List ℕ) → a ≡ Ok ys → b ≡ Ok zs → joined a b ≡ Ok (ys ++ zs)
@@ -151,7 +151,7 @@ so_far_none all xs ys ls before = record {
 pub piece_length : (k : ℕ) (ys : List ℕ) → length (piece k ys) ≡ used_in (length ys) k
 piece_length k ys = length-take 252 (drop (252 * k) ys) ∙ ap (min 252) (length-drop (252 * k) ys)
 
-take_piece : (k : ℕ) (ys : List ℕ) → take (252 * k) ys ++ piece k ys ≡ take (252 * (k + 1)) ys
+pub take_piece : (k : ℕ) (ys : List ℕ) → take (252 * k) ys ++ piece k ys ≡ take (252 * (k + 1)) ys
 take_piece k ys =
     let more : 252 * (k + 1) ≡ 252 * k + 252 = omega arith in
     let whole = take (252 * k + 252) ys in

@@ -79,6 +79,7 @@ pub record HasLeavesAt (all now : List (List ℕ)) (ls ms xs ys before after : L
   pub taken : before ≡ fresh ls (take n ms) ++ after
   pub shares : (k : ℕ) → k < n → piece k ys ≡ piece k xs → slice_index ms k ≡ slice_index ls k
   pub differs : (k : ℕ) → k < n → slice_index ms k ≡ slice_index ls k → piece k ys ≡ piece k xs
+  pub apart : (k : ℕ) → k < n → holds after (slice_index ms k) ≡ false
   pub rest : drop n ms ≡ drop n ls
 
 abbrev pub HasLeaves : List (List ℕ) → List (List ℕ) → List ℕ → List ℕ → List ℕ → List ℕ → List ℕ → List ℕ → Type 0
@@ -126,3 +127,30 @@ pub record IsBadMap (object : Ref) (block : ℕ) (all : List (List ℕ)) : Type 
   pub leaves : leaves_of all object ≡ Ok ls
   pub within : k < length ls
   pub bad : map_at all 1 (used_in object.pages k) (slice_index ls k) ≡ Err block
+
+-- the only leaf is the topmost map
+pub record OnlyLeaf (all now : List (List ℕ)) (ms : List ℕ) (pages root : ℕ) (before after : List ℕ) : Type 0 where
+  pub few : pages ≤ 252
+  pub is : root ≡ slice_index ms 0
+  pub left : after ≡ before
+  pub blocks : now ≡ all
+
+-- the topmost map stays, as the leaves do
+pub record SameTop (all now : List (List ℕ)) (old : Ref) (ls ms : List ℕ) (pages root : ℕ) (before after : List ℕ) : Type 0 where
+  pub many : 252 < pages
+  pub had : 252 < old.pages
+  pub leaves : ms ≡ ls
+  pub is : root ≡ old.root
+  pub left : after ≡ before
+  pub blocks : now ≡ all
+
+-- the topmost map is written, as there was none or the leaves changed
+pub record NewTop (all now : List (List ℕ)) (old : Ref) (ls ms : List ℕ) (pages root : ℕ) (before after : List ℕ) : Type 0 where
+  pub many : 252 < pages
+  pub leaves : 252 < old.pages → ms ≢ ls
+  pub left : before ≡ root ∷ after
+  pub blocks : now ≡ slice_set all root (map_block 2 root ms)
+
+abbrev pub EndsTop : List (List ℕ) → List (List ℕ) → Ref → List ℕ → List ℕ → ℕ → ℕ → List ℕ → List ℕ → Type 0
+EndsTop all now old ls ms pages root before after =
+    OnlyLeaf all now ms pages root before after ⊎ (SameTop all now old ls ms pages root before after ⊎ NewTop all now old ls ms pages root before after)

@@ -1,12 +1,12 @@
 //! Writing an object anew, by maps that it shares with the old one where their pages are the same.
-ghost use Rattle.std.specs.Prelude.{◌≡◌, ◌⊎◌, ◌≤◌, ◌<◌, ◌*◌, ◌+◌, ◌-◌, ◌∷◌, ◌++◌, ℕ, true, false, List, [], Some, Ok, Err, length, take, drop, IfOk, IfErr, OnOk, slice_index, slice_set, nat_lt};
+ghost use Rattle.std.specs.Prelude.{◌≡◌, ◌≢◌, ◌⊎◌, ◌≤◌, ◌<◌, ◌*◌, ◌+◌, ◌-◌, ◌∷◌, ◌++◌, ℕ, true, false, List, [], Some, Ok, Err, length, take, drop, IfOk, IfErr, OnOk, IsTrue, IsFalse, slice_index, slice_set, nat_lt};
 ghost use Rattle.iq_block_map.specs.Maps.{is_address};
 ghost use Rattle.iq_block_map.specs.Refs.{IsIn, MayBe};
 ghost use Rattle.iq_block_map.specs.Objects.{leaf_count, used_in, map_at, leaves_of, addresses_of, pages_of};
 ghost use Rattle.iq_block_map.specs.Takers.{AreSpare};
 ghost use Rattle.iq_block_map.specs.Writing.{HasPut};
-ghost use Rattle.iq_block_map.specs.Editing.{below, replaced_from, edited, padded, leaf_at, AreChanges, AreBlocks, AreApart, new_blocks, HasRemapped, EndsLeaf, IsNowIn, IsBadMap, IsOpened, AreOpened, IsBadLeaf, HasLeaves};
-ghost use Rattle.iq_block_map.specs.Causes.{IsEditFault, IsReadFault};
+ghost use Rattle.iq_block_map.specs.Editing.{below, replaced_from, edited, padded, leaf_at, AreChanges, AreBlocks, AreApart, new_blocks, HasRemapped, EndsLeaf, IsNowIn, IsBadMap, IsOpened, AreOpened, IsBadLeaf, HasLeaves, EndsTop};
+ghost use Rattle.iq_block_map.specs.Causes.{IsEditFault, IsReadFault, IsPutFault};
 ghost use Rattle.iq_block_store.specs.Looks.{HasLooked};
 ghost use Rattle.std.specs.List.{prefix_len};
 
@@ -52,20 +52,71 @@ pub fn remap<D: Device, T: Taker>(
     if changed.is_empty() && added.is_empty() {
         return Ok(old);
     }
+    rebuild(disk, space, old, changed, added)
+}
+
+/// The same where something changes.
+fn rebuild<D: Device, T: Taker>(
+    disk: &mut D,
+    space: &mut T,
+    old: Ref,
+    changed: &[(u32, u32)],
+    added: &[u32],
+) -> Result<Ref, MapFault>
+    requires object { IsIn (D.blocks disk.old) old }
+    requires changes { AreChanges 0 old.pages changed.now }
+    requires some { 1 ≤ length changed.now + length added.now }
+    requires most { old.pages + length added.now ≤ 63504 }
+    requires changed { AreBlocks (D.blocks disk.old) (new_blocks changed.now) }
+    requires added { AreBlocks (D.blocks disk.old) added.now }
+    requires spare { AreSpare (D.blocks disk.old) (T.left space.old) }
+    ensures put { HasPut D.blocks D.faults D.tells D.clock D.image (T.left space.old) (T.left space.new) disk.old disk.new }
+    ensures ok { IfOk result (λ new. (all : List (List ℕ)) (xs : List ℕ) → D.blocks disk.old ≡ Some all
+        → AreApart all old (T.left space.old) → addresses_of all old ≡ Ok xs
+        → IsNowIn (λ now. HasRemapped all now old new xs (edited xs changed.now added.now) (T.left space.old) (T.left space.new)) (D.blocks disk.new)) }
+    ensures pages { IfOk result (λ new. new.pages ≡ old.pages + length added.now) }
+    ensures cause { IfErr result (λ e. IsEditFault
+        (λ b all. AreApart all old (T.left space.old) → (leaves_of all old ≡ Err b) ⊎ IsBadMap old b all)
+        e (D.blocks disk.old) (T.left space.new) (D.faults disk.old) (D.faults disk.new)) }
+{
     let count = count_of(disk)?;
     let before = leaves_of(disk, count, old)?;
     let leaves = rewrite_leaves(disk, space, count, old, &before, changed, added)?;
     let pages = old.pages + added.len() as u32;
-    if pages <= 252 {
-        let root = leaves[0];
-        return Ok(Ref { root, pages });
-    }
-    if old.pages > 252 && leaves == before {
-        let root = old.root;
-        return Ok(Ref { root, pages });
-    }
-    let root = put(disk, space, MAP, 2, &payload_of(&leaves))?;
+    let root = top(disk, space, old, &before, &leaves, pages)?;
     Ok(Ref { root, pages })
+}
+
+/// The topmost map of so many pages with these leaves: the only leaf, the map that the object had, or one that is written.
+fn top<D: Device, T: Taker>(
+    disk: &mut D,
+    space: &mut T,
+    old: Ref,
+    before: &Places,
+    leaves: &Places,
+    pages: u32,
+) -> Result<u32, MapFault>
+    requires spare { AreSpare (D.blocks disk.old) (T.left space.old) }
+    ensures put { HasPut D.blocks D.faults D.tells D.clock D.image (T.left space.old) (T.left space.new) disk.old disk.new }
+    ensures ok { IfOk result (λ root. (all : List (List ℕ)) → D.blocks disk.old ≡ Some all
+        → IsNowIn (λ now. EndsTop all now old before.now leaves.now pages root (T.left space.old) (T.left space.new)) (D.blocks disk.new)) }
+    ensures cause { IfErr result (λ e. IsPutFault e (T.left space.new) (D.faults disk.old) (D.faults disk.new)) }
+{
+    if pages <= 252 {
+        return Ok(leaves[0]);
+    }
+    if keeps_leaves(old, before, leaves) {
+        return Ok(old.root);
+    }
+    put(disk, space, MAP, 2, &payload_of(leaves))
+}
+
+/// Whether an object that has a map above its leaves keeps them.
+fn keeps_leaves(old: Ref, before: &Places, leaves: &Places) -> bool
+    ensures yes { IsTrue result → (252 < old.pages) × (leaves.now ≡ before.now) }
+    ensures no { IsFalse result → 252 < old.pages → leaves.now ≢ before.now }
+{
+    old.pages > 252 && leaves == before
 }
 
 /// The leaves of an object with some pages in other blocks and some added, by the leaves that it had.
