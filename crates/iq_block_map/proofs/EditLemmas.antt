@@ -37,9 +37,9 @@ padded_put ys more used size =
     let front : take used (padded ys) ≡ ys = take_at ys zeros used size in
     let left : 252 - length ys - length more ≡ 252 - length (ys ++ more) = omega (arith, length-append ys more) in
     let back : drop (length more) (drop used (padded ys)) ≡ replicate (252 - length (ys ++ more)) 0
-      = ap (drop (length more)) (drop_at ys zeros used size)
-        ∙ drop-replicate (length more) (252 - length ys) 0
-        ∙ ap (λ (n : ℕ). replicate n 0) left in
+    = ap (drop (length more)) (drop_at ys zeros used size)
+    ∙ drop-replicate (length more) (252 - length ys) 0
+    ∙ ap (λ (n : ℕ). replicate n 0) left in
     ap (λ (t : List ℕ). t ++ (more ++ drop (length more) (drop used (padded ys)))) front
     ∙ ap (λ (t : List ℕ). ys ++ (more ++ t)) back
     ∙ sym (append_assoc ys more (replicate (252 - length (ys ++ more)) 0))
@@ -76,14 +76,14 @@ pub changes_cut : (first end mid : ℕ) (cs : List (ℕ × ℕ)) → first ≤ m
     → AreChanges first (min mid end) (take (prefix_len (below mid) cs) cs) × AreChanges mid end (drop (prefix_len (below mid) cs) cs)
 changes_cut first end mid [] early are = (tt, tt)
 changes_cut first end mid ((n, a) ∷ cs) early are = elim (cases_lt n mid) [
-    inl before ↦
+  | inl before ↦
       (let rest = changes_cut (n + 1) end mid cs (omega (arith, before)) are.2 in
       let cut : AreCut first end mid ((n, a) ∷ cs) (suc (prefix_len (below mid) cs)) = ((are.0, omega (arith, before, are.1), rest.0), rest.1) in
       subst (AreCut first end mid ((n, a) ∷ cs)) (sym (prefix_hit mid (n, a) cs (lt-ltb n mid before))) cut)
   | inr past ↦
       (let cut : AreCut first end mid ((n, a) ∷ cs) 0 = (tt, (omega (arith, past), are.1, are.2)) in
       subst (AreCut first end mid ((n, a) ∷ cs)) (sym (prefix_miss mid (n, a) cs (le-ltb n mid (omega (arith, past))))) cut)
-  ]
+]
 
 -- changes of two pieces one after the other
 pub replaced_pieces : (first : ℕ) (xs ys : List ℕ) (here later : List (ℕ × ℕ)) (end last : ℕ) → AreChanges first end here → end ≤ first + length xs
@@ -94,14 +94,14 @@ replaced_pieces first xs ys [] ((n, a) ∷ later) end last are within past =
     let at : n - first - length xs ≡ n - (first + length xs) = omega arith in
     ap (λ (t : List ℕ). replaced_from first t later) (set-append_right xs ys (length xs) (n - first) a refl (omega (arith, past.0)))
     ∙ replaced_pieces first xs (slice_set ys (n - first - length xs) a) [] later end last tt within
-      (changes_from (n + 1) (first + length xs) last later (omega (arith, past.0)) past.2)
+    (changes_from (n + 1) (first + length xs) last later (omega (arith, past.0)) past.2)
     ∙ ap (λ (i : ℕ). xs ++ replaced_from (first + length xs) (slice_set ys i a) later) at
 replaced_pieces first xs ys ((n, a) ∷ here) later end last are within past =
     let inside : n - first < length xs = omega (arith, are.0, are.1, within) in
     let size : length (slice_set xs (n - first) a) ≡ length xs = length-set xs (n - first) a in
     ap (λ (t : List ℕ). replaced_from first t (here ++ later)) (set-append_left xs ys (n - first) a inside)
     ∙ replaced_pieces first (slice_set xs (n - first) a) ys here later end last (changes_from (n + 1) first end here (omega (arith, are.0)) are.2)
-      (omega (arith, within, size)) (rw size past)
+    (omega (arith, within, size)) (rw size past)
     ∙ ap (λ (m : ℕ). replaced_from first (slice_set xs (n - first) a) here ++ replaced_from (first + m) ys later) size
 
 -- changes past the end of all pages are none
@@ -123,13 +123,13 @@ cut_full first last p xs cs added full here later =
     let back = replaced_from (first + 252) (drop 252 xs) (drop p cs) in
     let front_size : length front ≡ 252 = length-replaced first c (take p cs) ∙ size in
     let pieces : replaced_from first (c ++ drop 252 xs) (take p cs ++ drop p cs) ≡ front ++ replaced_from (first + length c) (drop 252 xs) (drop p cs)
-      = replaced_pieces first c (drop 252 xs) (take p cs) (drop p cs) (first + 252) last here (omega (arith, size)) (rw size later) in
+    = replaced_pieces first c (drop 252 xs) (take p cs) (drop p cs) (first + 252) last here (omega (arith, size)) (rw size later) in
     let whole : replaced_from first xs cs ++ added ≡ front ++ (back ++ added)
-      = ap (λ (t : List ℕ). replaced_from first t cs ++ added) (sym (take-append-drop 252 xs))
-        ∙ ap (λ (t : List (ℕ × ℕ)). replaced_from first (c ++ drop 252 xs) t ++ added) (sym (take-append-drop p cs))
-        ∙ ap (λ (t : List ℕ). t ++ added) pieces
-        ∙ ap (λ (n : ℕ). (front ++ replaced_from (first + n) (drop 252 xs) (drop p cs)) ++ added) size
-        ∙ append_assoc front back added in
+    = ap (λ (t : List ℕ). replaced_from first t cs ++ added) (sym (take-append-drop 252 xs))
+    ∙ ap (λ (t : List (ℕ × ℕ)). replaced_from first (c ++ drop 252 xs) t ++ added) (sym (take-append-drop p cs))
+    ∙ ap (λ (t : List ℕ). t ++ added) pieces
+    ∙ ap (λ (n : ℕ). (front ++ replaced_from (first + n) (drop 252 xs) (drop p cs)) ++ added) size
+    ∙ append_assoc front back added in
     record {
       here = ap (take 252) whole ∙ take_at front (back ++ added) 252 front_size ∙ sym (append-nil front);
       later = ap (drop 252) whole ∙ drop_at front (back ++ added) 252 front_size;
@@ -157,18 +157,18 @@ cut_part first p xs cs added part none =
     let room : min (252 - length xs) (length added) ≡ min (length added) (252 - length xs) = omega arith in
     record {
       here =
-        ap (λ (n : ℕ). take n (done ++ added)) count ∙ take_past done added (252 - length xs)
-        ∙ ap (λ (t : List ℕ). done ++ t) (sym (take_min (252 - length xs) added) ∙ ap (λ (n : ℕ). take n added) room)
-        ∙ ap (λ (t : List ℕ). replaced_from first t cs ++ take (min (length added) (252 - length xs)) added) (sym (take_all 252 xs part))
-        ∙ ap (λ (t : List (ℕ × ℕ)). replaced_from first (take 252 xs) t ++ take (min (length added) (252 - length xs)) added) (sym all);
+          ap (λ (n : ℕ). take n (done ++ added)) count ∙ take_past done added (252 - length xs)
+          ∙ ap (λ (t : List ℕ). done ++ t) (sym (take_min (252 - length xs) added) ∙ ap (λ (n : ℕ). take n added) room)
+          ∙ ap (λ (t : List ℕ). replaced_from first t cs ++ take (min (length added) (252 - length xs)) added) (sym (take_all 252 xs part))
+          ∙ ap (λ (t : List (ℕ × ℕ)). replaced_from first (take 252 xs) t ++ take (min (length added) (252 - length xs)) added) (sym all);
       later =
-        ap (λ (n : ℕ). drop n (done ++ added)) count ∙ drop_past done added (252 - length xs)
-        ∙ sym (drop_min (252 - length xs) added) ∙ ap (λ (n : ℕ). drop n added) room
-        ∙ ap (λ (t : List ℕ). t ++ drop (min (length added) (252 - length xs)) added) (sym nothing);
+          ap (λ (n : ℕ). drop n (done ++ added)) count ∙ drop_past done added (252 - length xs)
+          ∙ sym (drop_min (252 - length xs) added) ∙ ap (λ (n : ℕ). drop n added) room
+          ∙ ap (λ (t : List ℕ). t ++ drop (min (length added) (252 - length xs)) added) (sym nothing);
     }
   where
-  nothing : replaced_from (first + 252) (drop 252 xs) (drop p cs) ≡ []
-  nothing = ap (replaced_from (first + 252) (drop 252 xs)) none ∙ drop_all 252 xs part
+    nothing : replaced_from (first + 252) (drop 252 xs) (drop p cs) ≡ []
+    nothing = ap (replaced_from (first + 252) (drop 252 xs)) none ∙ drop_all 252 xs part
 
 -- one piece is done: its changes, and what is added where it isn't full
 pub cut_piece : (first : ℕ) (xs : List ℕ) (cs : List (ℕ × ℕ)) (added : List ℕ) → AreChanges first (first + length xs) cs
@@ -177,21 +177,21 @@ cut_piece first xs cs added are =
     let cut = changes_cut first (first + length xs) (first + 252) cs (omega arith) are in
     let p = prefix_len (below (first + 252)) cs in
     elim (cases_lt (length xs) 252) [
-      inl part ↦
-        (let none : drop p cs ≡ [] = no_changes (first + 252) (first + length xs) (drop p cs) (omega (arith, part)) cut.1 in
-        let room : 252 - min 252 (length xs) ≡ 252 - length xs = omega (arith, part) in
-        rw room (cut_part first p xs cs added (omega (arith, part)) none))
-    | inr full ↦
-        (let end : min (first + 252) (first + length xs) ≡ first + 252 = omega (arith, full) in
-        let none : min (length added) (252 - min 252 (length xs)) ≡ 0 = omega (arith, full) in
-        rw none (cut_full first (first + length xs) p xs cs added (omega (arith, full)) (rw end at cut.0) cut.1))
+      | inl part ↦
+          (let none : drop p cs ≡ [] = no_changes (first + 252) (first + length xs) (drop p cs) (omega (arith, part)) cut.1 in
+          let room : 252 - min 252 (length xs) ≡ 252 - length xs = omega (arith, part) in
+          rw room (cut_part first p xs cs added (omega (arith, part)) none))
+      | inr full ↦
+          (let end : min (first + 252) (first + length xs) ≡ first + 252 = omega (arith, full) in
+          let none : min (length added) (252 - min 252 (length xs)) ≡ 0 = omega (arith, full) in
+          rw none (cut_full first (first + length xs) p xs cs added (omega (arith, full)) (rw end at cut.0) cut.1))
     ]
 
 changes_end : (first end : ℕ) (cs : List (ℕ × ℕ)) → AreChanges first end cs → AreChanges first (first + (end - first)) cs
 changes_end first end cs are = elim (cases_lt first end) [
-    inl some ↦ (let same : end ≡ first + (end - first) = omega (arith, some) in subst (λ (n : ℕ). AreChanges first n cs) same are)
+  | inl some ↦ (let same : end ≡ first + (end - first) = omega (arith, some) in subst (λ (n : ℕ). AreChanges first n cs) same are)
   | inr none ↦ (let empty : cs ≡ [] = no_changes first end cs none are in rw empty tt)
-  ]
+]
 
 -- a piece of the edited pages, and what is still to be edited behind it
 pub record PieceAt (k pages : ℕ) (xs ys : List ℕ) (cs : List (ℕ × ℕ)) (added : List ℕ) (p m : ℕ) : Type 0 where
@@ -207,21 +207,21 @@ piece_at k pages xs ys cs added size are rest =
     let next : first + 252 ≡ 252 * (k + 1) = omega arith in
     let left_size : length left ≡ pages - first = length-drop first xs ∙ ap (λ (n : ℕ). n - first) size in
     let within : AreChanges first (first + length left) cs
-      = subst (λ (n : ℕ). AreChanges first (first + n) cs) (sym left_size) (changes_end first pages cs are) in
+    = subst (λ (n : ℕ). AreChanges first (first + n) cs) (sym left_size) (changes_end first pages cs are) in
     let room : 252 - min 252 (length left) ≡ 252 - used_in pages k = ap (λ (n : ℕ). 252 - min 252 n) left_size in
     let cut : CutPiece first left cs added (prefix_len (below (252 * (k + 1))) cs) (min (length added) (252 - used_in pages k))
-      = subst (λ (n : ℕ). CutPiece first left cs added (prefix_len (below n) cs) (min (length added) (252 - used_in pages k))) next
-        (subst (λ (n : ℕ). CutPiece first left cs added (prefix_len (below (first + 252)) cs) (min (length added) n)) room (cut_piece first left cs added within)) in
+    = subst (λ (n : ℕ). CutPiece first left cs added (prefix_len (below n) cs) (min (length added) (252 - used_in pages k))) next
+    (subst (λ (n : ℕ). CutPiece first left cs added (prefix_len (below (first + 252)) cs) (min (length added) n)) room (cut_piece first left cs added within)) in
     let p = prefix_len (below (252 * (k + 1))) cs in
     let m = min (length added) (252 - used_in pages k) in
     let behind : (zs : List ℕ) → drop 252 (drop first zs) ≡ drop (252 * (k + 1)) zs
-      = λ zs. drop-drop 252 first zs ∙ ap (λ (n : ℕ). drop n zs) next in
+    = λ zs. drop-drop 252 first zs ∙ ap (λ (n : ℕ). drop n zs) next in
     record {
       here = ap (take 252) rest ∙ cut.here;
       later =
-        sym (behind ys) ∙ ap (drop 252) rest ∙ cut.later
-        ∙ ap (λ (n : ℕ). replaced_from n (drop 252 left) (drop p cs) ++ drop m added) next
-        ∙ ap (λ (t : List ℕ). replaced_from (252 * (k + 1)) t (drop p cs) ++ drop m added) (behind xs);
+          sym (behind ys) ∙ ap (drop 252) rest ∙ cut.later
+          ∙ ap (λ (n : ℕ). replaced_from n (drop 252 left) (drop p cs) ++ drop m added) next
+          ∙ ap (λ (t : List ℕ). replaced_from (252 * (k + 1)) t (drop p cs) ++ drop m added) (behind xs);
     }
 
 pub length-edited : (xs : List ℕ) (cs : List (ℕ × ℕ)) (added : List ℕ) → length (edited xs cs added) ≡ length xs + length added
@@ -236,6 +236,6 @@ edited_start xs cs added =
 pub prefix_few : (mid : ℕ) (cs : List (ℕ × ℕ)) → prefix_len (below mid) cs ≤ length cs
 prefix_few mid [] = omega arith
 prefix_few mid (c ∷ cs) = elim (cases_lt c.0 mid) [
-    inl before ↦ (let rest = prefix_few mid cs in omega (arith, rest, prefix_hit mid c cs (lt-ltb c.0 mid before)))
+  | inl before ↦ (let rest = prefix_few mid cs in omega (arith, rest, prefix_hit mid c cs (lt-ltb c.0 mid before)))
   | inr past ↦ omega (arith, prefix_miss mid c cs (le-ltb c.0 mid (omega (arith, past))))
-  ]
+]

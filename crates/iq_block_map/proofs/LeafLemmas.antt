@@ -48,16 +48,16 @@ padded_places count ys are =
 
 fits_of : (count : ℕ) (ys : List ℕ) → count < 2 ^ 32 → length ys ≤ 252 → All (λ y. is_address count y ≡ true) ys → All (λ y. y < 2 ^ 32) (padded ys)
 fits_of count ys small few are k d within = elim (cases_lt k (length ys)) [
-    inl named ↦
+  | inl named ↦
       (let at : slice_index_or (padded ys) k d ≡ slice_index_or ys k d = get_or_append_left ys (replicate (252 - length ys) 0) d k named in
       let below : slice_index_or ys k d < count = ltb-true _ _ (and_parts _ _ (are k d named)).1 in
       omega (arith, at, below, small))
   | inr spare ↦
       (let inside : k - length ys < 252 - length ys = omega (arith, spare, within, length-padded ys few) in
       let at : slice_index_or (padded ys) k d ≡ 0
-        = get_or-append_right ys (replicate (252 - length ys) 0) (length ys) k d refl spare ∙ get_or-replicate (252 - length ys) (k - length ys) 0 d inside in
+      = get_or-append_right ys (replicate (252 - length ys) 0) (length ys) k d refl spare ∙ get_or-replicate (252 - length ys) (k - length ys) 0 d inside in
       omega (arith, at))
-  ]
+]
 
 -- the numbers of a map that was written
 pub places_written : (level at count : ℕ) (ys : List ℕ) → count < 2 ^ 32 → length ys ≤ 252 → All (λ y. is_address count y ≡ true) ys
@@ -67,7 +67,7 @@ places_written level at count ys small few are =
     let block = map_block level at (padded ys) in
     ap (numbers_at block 16) (sym (length-padded ys few))
     ∙ numbers_back block (header map_kind at level) [] (padded ys) 16 (fits_of count ys small few are)
-      (ap (λ (t : List ℕ). header map_kind at level ++ t) (sym (append-nil (flat_map bytes_of (padded ys))))) (length-header map_kind at level)
+    (ap (λ (t : List ℕ). header map_kind at level ++ t) (sym (append-nil (flat_map bytes_of (padded ys))))) (length-header map_kind at level)
 
 -- a map that was written is right
 pub is_map-written : (level at count : ℕ) (ys : List ℕ) → count < 2 ^ 32 → level < 2 ^ 32 → at < 2 ^ 32 → length ys ≤ 252
@@ -104,12 +104,12 @@ same_padded count xs zs (m ∷ more) size room are same =
     let others : List ℕ = replicate (252 - length (zs ++ m ∷ more)) 0 in
     let inside : length xs < length (zs ++ m ∷ more) = omega (arith, length-append zs (m ∷ more), size) in
     let here : slice_index (padded (zs ++ m ∷ more)) (length xs) ≡ m
-      = get_or_append_left (zs ++ m ∷ more) others 0 (length xs) inside ∙ get_or_at zs m more 0 (length xs) size in
+    = get_or_append_left (zs ++ m ∷ more) others 0 (length xs) inside ∙ get_or_at zs m more 0 (length xs) size in
     let spare : 0 < 252 - length xs = omega (arith, room) in
     let none : length xs - length xs ≡ 0 = omega arith in
     let there : slice_index (padded xs) (length xs) ≡ 0
-      = get_or-append_right xs zeros (length xs) (length xs) 0 refl (omega arith)
-        ∙ ap (slice_index zeros) none ∙ get_or-replicate (252 - length xs) 0 0 0 spare in
+    = get_or-append_right xs zeros (length xs) (length xs) 0 refl (omega arith)
+    ∙ ap (slice_index zeros) none ∙ get_or-replicate (252 - length xs) 0 0 0 spare in
     let zero_m : m ≡ 0 = sym here ∙ ap (λ (ps : List ℕ). slice_index ps (length xs)) same ∙ there in
     let four : 4 ≤ m = leb-true _ _ (and_parts _ _ (are 0 0 (omega arith))).0 in
     absurd (omega (arith, four, zero_m))

@@ -27,9 +27,9 @@ pub places_read : (block into : List ℕ) → length into ≡ 252 → IsRead lit
 unfolding places number_at
 places_read block into size read = ext_get_or 0 into (numbers_at block 16 252) (size ∙ sym (length-numbers_at block 16 252))
     (λ k within.
-      read k within
-      ∙ ap (little_number 4) (drop-drop (4 * k) 16 block)
-      ∙ sym (index-numbers_at block 16 252 k (omega (arith, within, size))))
+    read k within
+    ∙ ap (little_number 4) (drop-drop (4 * k) 16 block)
+    ∙ sym (index-numbers_at block 16 252 k (omega (arith, within, size))))
 
 pub bytes_written : (ps : List ℕ) → flat_map (little_bytes 4) ps ≡ flat_map bytes_of ps
 unfolding bytes_of
@@ -41,12 +41,12 @@ pub numbers_back : (block front rest xs : List ℕ) (i : ℕ) → All (λ x. x <
 numbers_back block front rest [] i fit is size = refl
 numbers_back block front rest (x ∷ xs) i fit is size =
     let split : block ≡ front ++ (bytes_of x ++ (flat_map bytes_of xs ++ rest))
-      = is ∙ ap (λ (t : List ℕ). front ++ t) (append_assoc (bytes_of x) (flat_map bytes_of xs) rest) in
+    = is ∙ ap (λ (t : List ℕ). front ++ t) (append_assoc (bytes_of x) (flat_map bytes_of xs) rest) in
     let fits : x < 2 ^ 32 = fit 0 0 (omega arith) in
     let rest_fit : All (λ x. x < 2 ^ 32) xs = λ k d within. fit (suc k) d (omega (arith, within)) in
     let head : number_at block i ≡ x
-      = ap (λ (t : List ℕ). number_at t i) split ∙ ap (number_at (front ++ (bytes_of x ++ (flat_map bytes_of xs ++ rest)))) (omega arith)
-        ∙ number_at-append front _ i 0 size ∙ number_at-bytes_of x _ fits in
+    = ap (λ (t : List ℕ). number_at t i) split ∙ ap (number_at (front ++ (bytes_of x ++ (flat_map bytes_of xs ++ rest)))) (omega arith)
+    ∙ number_at-append front _ i 0 size ∙ number_at-bytes_of x _ fits in
     let longer : length (front ++ bytes_of x) ≡ i + 4 = omega (arith, size, length-append front (bytes_of x), length-bytes_of x) in
     let rest_is : block ≡ (front ++ bytes_of x) ++ (flat_map bytes_of xs ++ rest) = split ∙ sym (append_assoc front (bytes_of x) (flat_map bytes_of xs ++ rest)) in
     ap (λ (m : ℕ). m ∷ numbers_at block (i + 4) (length xs)) head

@@ -13,11 +13,11 @@ use Rattle.iq_block_map.proofs.EditLemmas.{changes_cut, no_changes}
 
 pub all_append : (P : ℕ → Type 0) (xs ys : List ℕ) → All P xs → All P ys → All P (xs ++ ys)
 all_append P xs ys first second k d within = elim (cases_lt k (length xs)) [
-    inl early ↦ subst P (sym (get_or_append_left xs ys d k early)) (first k d early)
+  | inl early ↦ subst P (sym (get_or_append_left xs ys d k early)) (first k d early)
   | inr late ↦
       (let inside : k - length xs < length ys = omega (arith, late, within, length-append xs ys) in
       subst P (sym (get_or-append_right xs ys (length xs) k d refl late)) (second (k - length xs) d inside))
-  ]
+]
 
 pub all_take : (P : ℕ → Type 0) (n : ℕ) (xs : List ℕ) → All P xs → All P (take n xs)
 all_take P n xs each k d within =
@@ -28,11 +28,11 @@ all_drop P n xs each k d within = subst P (sym (get_or-drop n xs k d)) (each (n 
 
 all_set : (P : ℕ → Type 0) (xs : List ℕ) (i a : ℕ) → All P xs → P a → All P (slice_set xs i a)
 all_set P xs i a each here k d within = elim (cases_eq k i) [
-    inl same ↦
+  | inl same ↦
       (let inside : i < length xs = omega (arith, within, same, length-set xs i a) in
       subst P (sym (ap (λ (n : ℕ). slice_index_or (slice_set xs i a) n d) same ∙ get_or-set_same xs i a d inside)) here)
   | inr other ↦ subst P (sym (get_or-set_other xs i k a d other)) (each k d (omega (arith, within, length-set xs i a)))
-  ]
+]
 
 all_replaced : (P : ℕ → Type 0) (first : ℕ) (xs : List ℕ) (cs : List (ℕ × ℕ)) → All P xs → All P (new_blocks cs) → All P (replaced_from first xs cs)
 all_replaced P first xs [] each new = each
@@ -52,13 +52,13 @@ each_of p (x ∷ xs) pass (suc k) d within = each_of p xs (and_parts (p x) (list
 map_names : (all : List (List ℕ)) (level used at : ℕ) (xs : List ℕ) → map_at all level used at ≡ Ok xs → All (λ x. is_address (length all) x ≡ true) xs
 map_names all level used at xs is = go (is_map (length all) level used at (block_of all at)) refl is
   where
-  go : (b : Bool) → is_map (length all) level used at (block_of all at) ≡ b
-      → (if b then Ok (take used (places (block_of all at))) else Err at) ≡ Ok xs → All (λ x. is_address (length all) x ≡ true) xs
-  go true right same =
-      let is : take used (places (block_of all at)) ≡ xs = cc in
-      let named = (and_parts _ _ (and_parts _ _ right).1).0 in
-      subst (All (λ x. is_address (length all) x ≡ true)) is (each_of (is_address (length all)) (take used (places (block_of all at))) named)
-  go false right same = cc
+    go : (b : Bool) → is_map (length all) level used at (block_of all at) ≡ b
+        → (if b then Ok (take used (places (block_of all at))) else Err at) ≡ Ok xs → All (λ x. is_address (length all) x ≡ true) xs
+    go true right same =
+        let is : take used (places (block_of all at)) ≡ xs = cc in
+        let named = (and_parts _ _ (and_parts _ _ right).1).0 in
+        subst (All (λ x. is_address (length all) x ≡ true)) is (each_of (is_address (length all)) (take used (places (block_of all at))) named)
+    go false right same = cc
 
 -- what leaves name are blocks of the store
 pub listed_names : (all : List (List ℕ)) (pages : ℕ) (ls xs : List ℕ) → listed false all pages ls ≡ Ok xs → All (λ x. is_address (length all) x ≡ true) xs
@@ -72,8 +72,8 @@ listed_names all pages (l ∷ ls) xs is =
     let front_is : parts.0 ≡ first.1 = first.4 ∙ ap (λ (t : List ℕ). t ++ first.1) (sym none) in
     subst (All (λ x. is_address (length all) x ≡ true)) (sym parts.4)
     (all_append (λ x. is_address (length all) x ≡ true) parts.0 parts.1
-      (subst (All (λ x. is_address (length all) x ≡ true)) (sym front_is) (map_names all 1 (min 252 pages) l first.1 first.3))
-      (listed_names all (pages - 252) ls parts.1 parts.3))
+    (subst (All (λ x. is_address (length all) x ≡ true)) (sym front_is) (map_names all 1 (min 252 pages) l first.1 first.3))
+    (listed_names all (pages - 252) ls parts.1 parts.3))
 
 -- and as many as there are pages
 pub listed_count : (all : List (List ℕ)) (pages : ℕ) (ls xs : List ℕ) → listed false all pages ls ≡ Ok xs → pages ≤ 252 * length ls → length xs ≡ pages
@@ -94,11 +94,11 @@ pub here_changes : (k pages : ℕ) (cs : List (ℕ × ℕ)) → AreChanges (252 
     → AreChanges (252 * k) (252 * k + used_in pages k) (take (prefix_len (below (252 * (k + 1))) cs) cs)
     × AreChanges (252 * (k + 1)) pages (drop (prefix_len (below (252 * (k + 1))) cs) cs)
 here_changes k pages cs are = elim (cases_lt (252 * k) pages) [
-    inl some ↦
+  | inl some ↦
       (let cut = changes_cut (252 * k) pages (252 * (k + 1)) cs (omega arith) are in
       let end : min (252 * (k + 1)) pages ≡ 252 * k + used_in pages k = omega (arith, some) in
       (subst (λ (n : ℕ). AreChanges (252 * k) n (take (prefix_len (below (252 * (k + 1))) cs) cs)) end cut.0, cut.1))
   | inr none ↦
       (let no_cs : cs ≡ [] = no_changes (252 * k) pages cs none are in
       rw no_cs (tt, tt))
-  ]
+]

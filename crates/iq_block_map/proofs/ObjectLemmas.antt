@@ -24,9 +24,9 @@ listed_more maps all pages k leaves done named within is =
     let leaf = slice_index leaves k in
     let rest = listed maps all (pages - 252 * (k + 1)) (drop (k + 1) leaves) in
     let here : listed maps all (pages - 252 * k) (drop k leaves) ≡ joined (Ok (front maps leaf ++ named)) rest
-      = ap (listed maps all (pages - 252 * k)) (drop_more leaves k 0 within)
-        ∙ ap (λ (r : Result (List ℕ) ℕ). joined (joined (Ok (front maps leaf)) r) (listed maps all (pages - 252 * k - 252) (drop (k + 1) leaves))) is
-        ∙ ap (λ (n : ℕ). joined (Ok (front maps leaf ++ named)) (listed maps all n (drop (k + 1) leaves))) (omega arith) in
+    = ap (listed maps all (pages - 252 * k)) (drop_more leaves k 0 within)
+    ∙ ap (λ (r : Result (List ℕ) ℕ). joined (joined (Ok (front maps leaf)) r) (listed maps all (pages - 252 * k - 252) (drop (k + 1) leaves))) is
+    ∙ ap (λ (n : ℕ). joined (Ok (front maps leaf ++ named)) (listed maps all n (drop (k + 1) leaves))) (omega arith) in
     joined_assoc done (front maps leaf ++ named) rest ∙ ap (joined (Ok done)) (sym here)
 
 -- the next leaf isn't right: the walk ends there
@@ -36,8 +36,8 @@ pub listed_stops : (maps : Bool) (all : List (List ℕ)) (pages k b : ℕ) (leav
 listed_stops maps all pages k b leaves done within is =
     let leaf = slice_index leaves k in
     joined-ok-err done (listed maps all (pages - 252 * k) (drop k leaves)) b
-      (ap (listed maps all (pages - 252 * k)) (drop_more leaves k 0 within)
-        ∙ ap (λ (r : Result (List ℕ) ℕ). joined (joined (Ok (front maps leaf)) r) (listed maps all (pages - 252 * k - 252) (drop (k + 1) leaves))) is)
+    (ap (listed maps all (pages - 252 * k)) (drop_more leaves k 0 within)
+    ∙ ap (λ (r : Result (List ℕ) ℕ). joined (joined (Ok (front maps leaf)) r) (listed maps all (pages - 252 * k - 252) (drop (k + 1) leaves))) is)
 
 -- all leaves are walked
 pub listed_all : (maps : Bool) (all : List (List ℕ)) (pages k : ℕ) (leaves done : List ℕ) → length leaves ≤ k

@@ -40,16 +40,16 @@ pub beside_more : (xs ys : List ℕ) (a b c : List (List ℕ)) → SameBeside xs
 beside_more xs ys a b c first second = record {
   size = second.size ∙ first.size;
   others = λ i free.
-    let parts = holds-append xs ys i free in
-    second.others i parts.1 ∙ first.others i parts.0;
+      let parts = holds-append xs ys i free in
+      second.others i parts.1 ∙ first.others i parts.0;
 }
 
 pub beside_of_but : (at : ℕ) (a b : List (List ℕ)) → SameBut at a b → SameBeside (at ∷ []) a b
 beside_of_but at a b same = record {
   size = same.size;
   others = λ i free.
-    let parts = or_false (nat_eq i at) false free in
-    same.others i (λ is. cc (eq-eqb i at is, parts.0));
+      let parts = or_false (nat_eq i at) false free in
+      same.others i (λ is. cc (eq-eqb i at is, parts.0));
 }
 
 -- no block was taken, and the device was only looked at
@@ -81,13 +81,13 @@ since_then : {D : Type 0} (clock : D → ℕ) (image : D → ℕ → List (List 
     → AddsBeside xs clock image old between → AddsBeside ys clock image between new → AddsBeside (xs ++ ys) clock image old new
 since_then clock image tells xs ys old between new past_first past_second first second t b since until left =
     elim (cases_lt (clock between) t) [
-      inl after ↦
-        (let mid = second t b (omega (arith, after)) until left in
-        let start = first (clock between) mid.0 past_first.later (omega arith) mid.1 in
-        (start.0, start.1, beside_more xs ys start.0 mid.0 b start.2 mid.2))
-    | inr early ↦
-        (let start = first t b since early (past_second.no_more t b early left) in
-        (start.0, start.1, beside_more xs ys start.0 b b start.2 (SameBeside-refl ys b)))
+      | inl after ↦
+          (let mid = second t b (omega (arith, after)) until left in
+          let start = first (clock between) mid.0 past_first.later (omega arith) mid.1 in
+          (start.0, start.1, beside_more xs ys start.0 mid.0 b start.2 mid.2))
+      | inr early ↦
+          (let start = first t b since early (past_second.no_more t b early left) in
+          (start.0, start.1, beside_more xs ys start.0 b b start.2 (SameBeside-refl ys b)))
     ]
 
 -- one call after another
@@ -99,14 +99,14 @@ put_then blocks faults tells clock image before mid after old between new first 
     let xs = taken_of before mid in
     let ys = taken_of mid after in
     let split : before ≡ (xs ++ ys) ++ after
-      = first.left ∙ ap (λ (t : List ℕ). xs ++ t) second.left ∙ sym (append_assoc xs ys after) in
+    = first.left ∙ ap (λ (t : List ℕ). xs ++ t) second.left ∙ sym (append_assoc xs ys after) in
     let both : taken_of before after ≡ xs ++ ys = taken_front before (xs ++ ys) after split in
     record {
       left = split ∙ ap (λ (t : List ℕ). t ++ after) (sym both);
       content = λ all told.
-        let one = first.content all told in
-        let two = second.content one.0 one.1 in
-        (two.0, two.1, rw both (beside_more xs ys all one.0 two.0 one.2 two.2));
+          let one = first.content all told in
+          let two = second.content one.0 one.1 in
+          (two.0, two.1, rw both (beside_more xs ys all one.0 two.0 one.2 two.2));
       untold = λ never. second.untold (first.untold never);
       later = omega (arith, first.later, second.later);
       past = past_then tells clock image old between new first.past second.past;
@@ -126,17 +126,17 @@ put_one blocks faults tells clock image at block before after result old new is 
       later = written.counts.later;
       past = written.past;
       since = rw one (λ t b since until left.
-        let start = written.since t b since until left in
-        (start.0, start.1, beside_of_but at start.0 b start.2));
+          let start = written.since t b since until left in
+          (start.0, start.1, beside_of_but at start.0 b start.2));
     }
   where
-  put_content : {U E : Type 0} (result : Result U E) (at : ℕ) (block : List ℕ) (old new : Option (List (List ℕ))) → Stored at block result old new
-      → (all : List (List ℕ)) → old ≡ Some all → (now : List (List ℕ)) × (new ≡ Some now) × SameBeside (at ∷ []) all now
-  put_content (Ok u) at block old new stored all told =
-      (slice_set all at block, stored.ok all told, beside_of_but at all (slice_set all at block) (SameBut-set at all block))
-  put_content (Err e) at block old new stored all told =
-      let failed = stored.err all told in
-      (failed.0, failed.1, beside_of_but at all failed.0 failed.2)
+    put_content : {U E : Type 0} (result : Result U E) (at : ℕ) (block : List ℕ) (old new : Option (List (List ℕ))) → Stored at block result old new
+        → (all : List (List ℕ)) → old ≡ Some all → (now : List (List ℕ)) × (new ≡ Some now) × SameBeside (at ∷ []) all now
+    put_content (Ok u) at block old new stored all told =
+        (slice_set all at block, stored.ok all told, beside_of_but at all (slice_set all at block) (SameBut-set at all block))
+    put_content (Err e) at block old new stored all told =
+        let failed = stored.err all told in
+        (failed.0, failed.1, beside_of_but at all failed.0 failed.2)
 
 -- a device that nothing was done to
 pub looked_same : {D : Type 0} (blocks : D → Option (List (List ℕ))) (faults : D → ℕ) (tells : D → Bool) (clock : D → ℕ)
@@ -148,8 +148,8 @@ looked_same blocks faults tells clock image now = record {
   since = λ t b since until left. rw (← same t since until) left;
 }
   where
-  same : (t : ℕ) → clock now ≤ t → t ≤ clock now → t ≡ clock now
-  same t since until = omega (arith, since, until)
+    same : (t : ℕ) → clock now ≤ t → t ≤ clock now → t ≡ clock now
+    same t since until = omega (arith, since, until)
 
 -- the first of the blocks that may be taken is in the store
 pub first_inside : (told : Option (List (List ℕ))) (all : List (List ℕ)) (at : ℕ) (before after : List ℕ) → AreSpare told before → told ≡ Some all
@@ -169,3 +169,17 @@ written_ok (Err e) at block old new is stored all told = cc
 -- what is told twice is the same
 pub told_same : (old new : Option (List (List ℕ))) (now all : List (List ℕ)) → new ≡ old → new ≡ Some now → old ≡ Some all → now ≡ all
 told_same old new now all same is told = cc
+
+-- looking once more
+pub looked_then : {D : Type 0} (blocks : D → Option (List (List ℕ))) (faults : D → ℕ) (tells : D → Bool) (clock : D → ℕ)
+    (image : D → ℕ → List (List ℕ) → Type 0) (old between new : D) → HasLooked blocks faults tells clock image old between
+    → HasLooked blocks faults tells clock image between new → HasLooked blocks faults tells clock image old new
+looked_then blocks faults tells clock image old between new first second = record {
+  unchanged = second.unchanged ∙ first.unchanged;
+  later = omega (arith, first.later, second.later);
+  past = past_then tells clock image old between new first.past second.past;
+  since = λ t b since until left. elim (cases_lt (clock between) t) [
+    | inl after ↦ first.since (clock between) b first.past.later (omega arith) (second.since t b (omega (arith, after)) until left)
+    | inr early ↦ first.since t b since early (second.past.no_more t b early left)
+  ];
+}

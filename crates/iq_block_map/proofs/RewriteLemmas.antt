@@ -24,17 +24,17 @@ pub put_told : {D : Type 0} (blocks : D → Option (List (List ℕ))) (faults : 
     → (all : List (List ℕ)) × (blocks old ≡ Some all) × SameBeside (taken_of before after) all now
 put_told blocks faults tells clock image before after old new now put told = go (blocks old) refl
   where
-  go : (o : Option (List (List ℕ))) → blocks old ≡ o → (all : List (List ℕ)) × (blocks old ≡ Some all) × SameBeside (taken_of before after) all now
-  go None is = absurd (never (put.untold is))
-    where
-    never : blocks new ≡ None → ⊥
-    never not = cc (sym told ∙ not)
-  go (Some all) is =
-      let there = put.content all is in
-      (all, is, subst (SameBeside (taken_of before after) all) (one there.0 there.1) there.2)
-    where
-    one : (b : List (List ℕ)) → blocks new ≡ Some b → b ≡ now
-    one b other = cc
+    go : (o : Option (List (List ℕ))) → blocks old ≡ o → (all : List (List ℕ)) × (blocks old ≡ Some all) × SameBeside (taken_of before after) all now
+    go None is = absurd (never (put.untold is))
+      where
+        never : blocks new ≡ None → ⊥
+        never not = cc (sym told ∙ not)
+    go (Some all) is =
+        let there = put.content all is in
+        (all, is, subst (SameBeside (taken_of before after) all) (one there.0 there.1) there.2)
+      where
+        one : (b : List (List ℕ)) → blocks new ≡ Some b → b ≡ now
+        one b other = cc
 
 distinct_after : (taken after : List ℕ) → IsDistinct nat_eq (taken ++ after) → IsDistinct nat_eq after
 distinct_after [] after are = are
@@ -43,7 +43,7 @@ distinct_after (x ∷ taken) after are = distinct_after taken after (distinct_pa
 all_after : (P : ℕ → Type 0) (taken after : List ℕ) → All P (taken ++ after) → All P after
 all_after P taken after each k d within =
     let at : slice_index_or (taken ++ after) (length taken + k) d ≡ slice_index_or after k d
-      = get_or-append_right taken after (length taken) (length taken + k) d refl (omega arith) ∙ ap (λ (n : ℕ). slice_index_or after n d) (omega arith) in
+    = get_or-append_right taken after (length taken) (length taken + k) d refl (omega arith) ∙ ap (λ (n : ℕ). slice_index_or after n d) (omega arith) in
     subst P at (each (length taken + k) d (omega (arith, within, length-append taken after)))
 
 -- what is left may still be taken
@@ -53,11 +53,11 @@ pub spare_after : {D : Type 0} (blocks : D → Option (List (List ℕ))) (faults
 spare_after blocks faults tells clock image before after old new spare put = record {
   distinct = distinct_after (taken_of before after) after (subst (IsDistinct nat_eq) put.left spare.distinct);
   inside = λ now told.
-    let there = put_told blocks faults tells clock image before after old new now put told in
-    let each = spare.inside there.0 there.1 in
-    subst (λ (n : ℕ). All (λ b. is_address n b ≡ true) after) (sym there.2.size)
+      let there = put_told blocks faults tells clock image before after old new now put told in
+      let each = spare.inside there.0 there.1 in
+      subst (λ (n : ℕ). All (λ b. is_address n b ≡ true) after) (sym there.2.size)
       (all_after (λ b. is_address (length there.0) b ≡ true) (taken_of before after) after
-        (subst (All (λ b. is_address (length there.0) b ≡ true)) put.left each));
+      (subst (All (λ b. is_address (length there.0) b ≡ true)) put.left each));
 }
 
 zero_at : (zs : List ℕ) (k : ℕ) → list_all (nat_eq 0) zs ≡ true → slice_index zs k ≡ 0
@@ -77,27 +77,27 @@ pub old_leaf : (all now : List (List ℕ)) (old : Ref) (xs ls before taken : Lis
     → SameBeside taken all now → ((b : ℕ) → holds before b ≡ false → holds taken b ≡ false)
     → leaf_at now (used_in (length xs) k) (slice_index ls k) ≡ Ok (piece k xs)
 old_leaf all now old xs ls before taken k opened count few size same free = elim (cases_lt (252 * k) (length xs)) [
-    inl some ↦
+  | inl some ↦
       (let within : k < leaf_count old.pages = omega (arith, some, count) in
       let fits : leaf_count old.pages ≤ 252 = omega (arith, few) in
       let long : length (take (leaf_count old.pages) ls) ≡ leaf_count old.pages = length-take (leaf_count old.pages) ls ∙ omega (arith, opened.may.size, fits) in
       let at : slice_index (take (leaf_count old.pages) ls) k ≡ slice_index ls k = get_or-take (leaf_count old.pages) ls k 0 within in
       let read : map_at all 1 (used_in old.pages k) (slice_index (take (leaf_count old.pages) ls) k) ≡ Ok (piece k xs)
-        = listed_at all old.pages k (take (leaf_count old.pages) ls) xs opened.listed (omega (arith, long)) (omega (arith, within, long)) in
+      = listed_at all old.pages k (take (leaf_count old.pages) ls) xs opened.listed (omega (arith, long)) (omega (arith, within, long)) in
       let apart : holds before (slice_index ls k) ≡ false
-        = ap (holds before) (sym at) ∙ opened.apart k 0 (omega (arith, within, long)) in
+      = ap (holds before) (sym at) ∙ opened.apart k 0 (omega (arith, within, long)) in
       let block : block_of now (slice_index ls k) ≡ block_of all (slice_index ls k) = same.others (slice_index ls k) (free (slice_index ls k) apart) in
       let used : nat_eq (used_in (length xs) k) 0 ≡ false = ne_eqb (used_in (length xs) k) 0 (omega (arith, some)) in
       let here : map_at now 1 (used_in (length xs) k) (slice_index ls k) ≡ Ok (piece k xs)
-        = map_same all now 1 (used_in (length xs) k) (slice_index ls k) size block
-          ∙ ap (λ (n : ℕ). map_at all 1 (used_in n k) (slice_index ls k)) count
-          ∙ ap (map_at all 1 (used_in old.pages k)) (sym at) ∙ read in
+      = map_same all now 1 (used_in (length xs) k) (slice_index ls k) size block
+      ∙ ap (λ (n : ℕ). map_at all 1 (used_in n k) (slice_index ls k)) count
+      ∙ ap (map_at all 1 (used_in old.pages k)) (sym at) ∙ read in
       rw used here)
   | inr none ↦
       (let used : nat_eq (used_in (length xs) k) 0 ≡ true = eq-eqb (used_in (length xs) k) 0 (omega (arith, none)) in
       let empty : piece k xs ≡ [] = ap (take 252) (drop_all (252 * k) xs none) in
       rw used (ap Ok (sym empty)))
-  ]
+]
 
 -- one more leaf is done
 pub leaf_done : (all now now' : List (List ℕ)) (old : Ref) (xs ys ls ms before after after' taken : List ℕ) (k at made : ℕ)
@@ -109,34 +109,34 @@ pub leaf_done : (all now now' : List (List ℕ)) (old : Ref) (xs ys ls ms before
     → IsSoFar all now' xs ys ls (slice_set ms k made) before after' (k + 1)
 leaf_done all now now' old xs ys ls ms before after after' taken k at made so_far opened count few same split small long place some at_is named distinct inside ends =
     let free : (b : ℕ) → holds before b ≡ false → (holds taken b ≡ false) × (holds after b ≡ false)
-      = λ b none. holds-append taken after b (ap (λ (t : List ℕ). holds t b) (sym split) ∙ none) in
+    = λ b none. holds-append taken after b (ap (λ (t : List ℕ). holds t b) (sym split) ∙ none) in
     let read : leaf_at now (used_in (length xs) k) (slice_index ls k) ≡ Ok (piece k xs)
-      = old_leaf all now old xs ls before taken k opened count few so_far.size same (λ b none. (free b none).0) in
+    = old_leaf all now old xs ls before taken k opened count few so_far.size same (λ b none. (free b none).0) in
     let read_at : leaf_at now (used_in (length xs) k) at ≡ Ok (piece k xs) = ap (leaf_at now (used_in (length xs) k)) at_is ∙ read in
     let fits : leaf_count old.pages ≤ 252 = omega (arith, few) in
     let address : 252 * k < length xs → is_address (length all) (slice_index ls k) ≡ true
-      = λ inside. address_at (length all) (leaf_count old.pages) k ls opened.may (omega (arith, inside, count)) fits in
+    = λ inside. address_at (length all) (leaf_count old.pages) k ls opened.may (omega (arith, inside, count)) fits in
     let apart : 252 * k < length xs → holds after (slice_index ls k) ≡ false
-      = λ inside.
-        let within : k < leaf_count old.pages = omega (arith, inside, count) in
-        let size : length (take (leaf_count old.pages) ls) ≡ leaf_count old.pages = length-take (leaf_count old.pages) ls ∙ omega (arith, opened.may.size, fits) in
-        (free (slice_index ls k) (ap (holds before) (sym (get_or-take (leaf_count old.pages) ls k 0 within)) ∙ opened.apart k 0 (omega (arith, within, size)))).1 in
+    = λ inside.
+    let within : k < leaf_count old.pages = omega (arith, inside, count) in
+    let size : length (take (leaf_count old.pages) ls) ≡ leaf_count old.pages = length-take (leaf_count old.pages) ls ∙ omega (arith, opened.may.size, fits) in
+    (free (slice_index ls k) (ap (holds before) (sym (get_or-take (leaf_count old.pages) ls k 0 within)) ∙ opened.apart k 0 (omega (arith, within, size)))).1 in
     elim (ends read_at) [
-      inl stays ↦
-        (let next = stays_next all now now' xs ys ls ms after after' k at made at_is stays read_at some
+      | inl stays ↦
+          (let next = stays_next all now now' xs ys ls ms after after' k at made at_is stays read_at some
           (λ inside. ap (is_address (length all)) at_is ∙ address inside) (λ inside. ap (holds after) at_is ∙ apart inside) in
-        so_far_more all now now' xs ys ls ms before after after' k made (omega (arith, long, place)) place so_far next.1 next.0)
-    | inr makes ↦
-        (let other : slice_index ls k ≢ made = elim (cases_lt (252 * k) (length xs)) [
-            inl old_one ↦ (head_apart made (slice_index ls k) after' (ap (λ (t : List ℕ). holds t (slice_index ls k)) (sym makes.left) ∙ apart old_one)).0
-          | inr new_one ↦
-              (let none : slice_index ls k ≡ 0 = spare_zero (length all) (leaf_count old.pages) k ls opened.may (omega (arith, new_one, count)) in
-              let first : is_address (length all) made ≡ true
+          so_far_more all now now' xs ys ls ms before after after' k made (omega (arith, long, place)) place so_far next.1 next.0)
+      | inr makes ↦
+          (let other : slice_index ls k ≢ made = elim (cases_lt (252 * k) (length xs)) [
+            | inl old_one ↦ (head_apart made (slice_index ls k) after' (ap (λ (t : List ℕ). holds t (slice_index ls k)) (sym makes.left) ∙ apart old_one)).0
+            | inr new_one ↦
+                (let none : slice_index ls k ≡ 0 = spare_zero (length all) (leaf_count old.pages) k ls opened.may (omega (arith, new_one, count)) in
+                let first : is_address (length all) made ≡ true
                 = ap (λ (t : List ℕ). is_address (length all) (slice_index t 0)) (sym makes.left) ∙ inside 0 0 (omega (arith, ap length makes.left)) in
-              λ same_one. absurd (omega (arith, none, same_one, behind_of (length all) made first)))
+                λ same_one. absurd (omega (arith, none, same_one, behind_of (length all) made first)))
           ] in
-        let next = makes_next all now now' xs ys ls ms after after' k made so_far.size small makes named distinct inside other so_far.apart in
-        so_far_more all now now' xs ys ls ms before after after' k made (omega (arith, long, place)) place so_far next.1 next.0)
+          let next = makes_next all now now' xs ys ls ms after after' k made so_far.size small makes named distinct inside other so_far.apart in
+          so_far_more all now now' xs ys ls ms before after after' k made (omega (arith, long, place)) place so_far next.1 next.0)
     ]
 
 -- a leaf that wasn't touched
@@ -172,10 +172,10 @@ leaves_done all now old xs ys ls ms before after k so_far opened end grown few l
     let whole : take (252 * k) ys ≡ ys = take_all (252 * k) ys (omega (arith, end)) in
     let over : leaf_count old.pages + (k - leaf_count old.pages) ≡ k = omega (arith, end, grown) in
     let zeros : list_all (nat_eq 0) (drop k ms) ≡ true
-      = ap (list_all (nat_eq 0)) (rest ∙ ap (λ (n : ℕ). drop n ls) (sym over) ∙ sym (drop-drop (k - leaf_count old.pages) (leaf_count old.pages) ls))
-        ∙ all_behind (nat_eq 0) (k - leaf_count old.pages) (drop (leaf_count old.pages) ls) (and_parts _ _ opened.may.places).1 in
+    = ap (list_all (nat_eq 0)) (rest ∙ ap (λ (n : ℕ). drop n ls) (sym over) ∙ sym (drop-drop (k - leaf_count old.pages) (leaf_count old.pages) ls))
+    ∙ all_behind (nat_eq 0) (k - leaf_count old.pages) (drop (leaf_count old.pages) ls) (and_parts _ _ opened.may.places).1 in
     let named : list_all (is_address (length all)) (take k ms) ≡ true
-      = all_by_place (is_address (length all)) k ms so_far.named (omega (arith, fits, long)) in
+    = all_by_place (is_address (length all)) k ms so_far.named (omega (arith, fits, long)) in
     subst (λ (n : ℕ). HasLeavesAt all now ls ms xs ys before after n) end record {
       may = record { size = long; places = rw (named, zeros) refl };
       listed = so_far.listed ∙ ap Ok whole;
@@ -191,29 +191,30 @@ pub bad_leaf : (all now : List (List ℕ)) (old : Ref) (ls before taken after : 
     → SameBeside taken all now → before ≡ taken ++ after → old.pages ≤ 63504 → used ≡ used_in old.pages k → at ≡ slice_index ls k → b ≡ at
     → leaf_at now used at ≡ Err at → IsBadLeaf old ls b all
 bad_leaf all now old ls before taken after k b at used opened same split few used_is at_is b_is bad = elim (cases_eq used 0) [
-    inl none ↦ absurd (never (eq-eqb used 0 none) bad)
+  | inl none ↦ absurd (never (eq-eqb used 0 none) bad)
   | inr some ↦
       (let within : k < leaf_count old.pages = omega (arith, some, used_is) in
       let fits : leaf_count old.pages ≤ 252 = omega (arith, few) in
       let size : length (take (leaf_count old.pages) ls) ≡ leaf_count old.pages = length-take (leaf_count old.pages) ls ∙ omega (arith, opened.may.size, fits) in
       let apart : holds before (slice_index ls k) ≡ false
-        = ap (holds before) (sym (get_or-take (leaf_count old.pages) ls k 0 within)) ∙ opened.apart k 0 (omega (arith, within, size)) in
+      = ap (holds before) (sym (get_or-take (leaf_count old.pages) ls k 0 within)) ∙ opened.apart k 0 (omega (arith, within, size)) in
       let free = holds-append taken after (slice_index ls k) (ap (λ (t : List ℕ). holds t (slice_index ls k)) (sym split) ∙ apart) in
       let map : map_at now 1 used at ≡ Err at = read (ne_eqb used 0 some) bad in
       record {
         k = k;
         within = within;
         bad =
-          ap (λ (n : ℕ). map_at all 1 n (slice_index ls k)) (sym used_is)
-          ∙ sym (map_same all now 1 used (slice_index ls k) same.size (same.others (slice_index ls k) free.0))
-          ∙ ap (map_at now 1 used) (sym at_is) ∙ map ∙ ap Err (sym b_is);
+            ap (λ (n : ℕ). map_at all 1 n (slice_index ls k)) (sym used_is)
+            ∙ sym (map_same all now 1 used (slice_index ls k) same.size (same.others (slice_index ls k) free.0))
+            ∙ ap (map_at now 1 used) (sym at_is) ∙ map ∙ ap Err (sym b_is);
       })
-  ]
+]
   where
-  never : nat_eq used 0 ≡ true → leaf_at now used at ≡ Err at → ⊥
-  never none is = no_err (rw none at is)
-    where
-    no_err : ◌≡◌ {A = Result (List ℕ) ℕ} (Ok []) (Err at) → ⊥
-    no_err wrong = cc
-  read : nat_eq used 0 ≡ false → leaf_at now used at ≡ Err at → map_at now 1 used at ≡ Err at
-  read some is = rw some at is
+    never : nat_eq used 0 ≡ true → leaf_at now used at ≡ Err at → ⊥
+    never none is = no_err (rw none at is)
+      where
+        no_err : ◌≡◌ {A = Result (List ℕ) ℕ} (Ok []) (Err at) → ⊥
+        no_err wrong = cc
+
+    read : nat_eq used 0 ≡ false → leaf_at now used at ≡ Err at → map_at now 1 used at ≡ Err at
+    read some is = rw some at is

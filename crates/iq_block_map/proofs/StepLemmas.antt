@@ -53,18 +53,18 @@ listed_push all pages at (l ∷ ls) xs ys is here =
     let parts = both_parts (joined (Ok []) (map_at all 1 (min 252 pages) l)) (listed false all (pages - 252) ls) xs is in
     let used : used_in pages (suc (length ls)) ≡ used_in (pages - 252) (length ls) = omega arith in
     let rest : listed false all (pages - 252) (ls ++ at ∷ []) ≡ Ok (parts.1 ++ ys)
-      = listed_push all (pages - 252) at ls parts.1 ys parts.3 (ap (λ (n : ℕ). map_at all 1 n at) (sym used) ∙ here) in
+    = listed_push all (pages - 252) at ls parts.1 ys parts.3 (ap (λ (n : ℕ). map_at all 1 n at) (sym used) ∙ here) in
     joined_ok (joined (Ok []) (map_at all 1 (min 252 pages) l)) (listed false all (pages - 252) (ls ++ at ∷ [])) parts.0 (parts.1 ++ ys) parts.2 rest
     ∙ ap Ok (sym (append_assoc parts.0 parts.1 ys) ∙ ap (λ (t : List ℕ). t ++ ys) (sym parts.4))
 
 pub length_map : (all : List (List ℕ)) (level used at : ℕ) (xs : List ℕ) → map_at all level used at ≡ Ok xs → used ≤ 252 → length xs ≡ used
 length_map all level used at xs is few = length_if (is_map (length all) level used at (block_of all at)) is
   where
-  length_if : (b : Bool) → (if b then Ok (take used (places (block_of all at))) else Err at) ≡ Ok xs → length xs ≡ used
-  length_if true same =
-      let is : take used (places (block_of all at)) ≡ xs = cc in
-      ap length (sym is) ∙ length-take used (places (block_of all at)) ∙ omega (arith, length-places (block_of all at), few)
-  length_if false same = cc
+    length_if : (b : Bool) → (if b then Ok (take used (places (block_of all at))) else Err at) ≡ Ok xs → length xs ≡ used
+    length_if true same =
+        let is : take used (places (block_of all at)) ≡ xs = cc in
+        ap length (sym is) ∙ length-take used (places (block_of all at)) ∙ omega (arith, length-places (block_of all at), few)
+    length_if false same = cc
 
 piece_front : (xs ys zs : List ℕ) → xs ≡ ys ++ zs → (length ys ≡ 252) ⊎ ((length ys ≤ 252) × (zs ≡ [])) → piece 0 xs ≡ ys
 piece_front xs ys zs is (inl full) =
@@ -98,9 +98,9 @@ listed_at all pages zero (l ∷ ls) xs is few within =
     let front_is : parts.0 ≡ first.1 = first.4 ∙ ap (λ (t : List ℕ). t ++ first.1) (sym (ok_is [] first.0 (Ok []) refl first.2)) in
     let size : length parts.0 ≡ min 252 pages = ap length front_is ∙ length_map all 1 (min 252 pages) l first.1 first.3 (omega arith) in
     let whole : piece 0 xs ≡ parts.0 = piece_front xs parts.0 parts.1 parts.4 (elim (cases_lt pages 252) [
-        inl part ↦ inr (omega (arith, size), no_leaves ls parts.1 all (pages - 252) (omega (arith, few, part)) parts.3)
+      | inl part ↦ inr (omega (arith, size), no_leaves ls parts.1 all (pages - 252) (omega (arith, few, part)) parts.3)
       | inr full ↦ inl (omega (arith, size, full))
-      ]) in
+    ]) in
     ap (λ (n : ℕ). map_at all 1 n l) used ∙ first.3 ∙ ap Ok (sym front_is ∙ sym whole)
 listed_at all pages (suc k) (l ∷ ls) xs is few within =
     let parts = both_parts (joined (Ok []) (map_at all 1 (min 252 pages) l)) (listed false all (pages - 252) ls) xs is in
@@ -145,8 +145,8 @@ so_far_none all xs ys ls before = record {
   differs = λ j within. absurd (omega (arith, within));
 }
   where
-  none : 0 ≡ 252 * 0
-  none = omega arith
+    none : 0 ≡ 252 * 0
+    none = omega arith
 
 pub piece_length : (k : ℕ) (ys : List ℕ) → length (piece k ys) ≡ used_in (length ys) k
 piece_length k ys = length-take 252 (drop (252 * k) ys) ∙ ap (min 252) (length-drop (252 * k) ys)
@@ -163,9 +163,9 @@ take_piece k ys =
 -- what holds of each leaf before one, and of that one, holds of each up to it
 each_more : (P : ℕ → Type 0) (k : ℕ) → ((j : ℕ) → j < k → P j) → P k → (j : ℕ) → j < k + 1 → P j
 each_more P k before here j within = elim (cases_lt j k) [
-    inl less ↦ before j less
+  | inl less ↦ before j less
   | inr last ↦ (let is : k ≡ j = omega (arith, last, within) in subst P is here)
-  ]
+]
 
 -- the leaves after one of them was put in its place
 put_before : (ms : List ℕ) (k made j : ℕ) → j < k → slice_index (slice_set ms k made) j ≡ slice_index ms j
@@ -196,36 +196,36 @@ so_far_more all now now' xs ys ls ms before after after' k made within few so_fa
     let front : take (k + 1) (slice_set ms k made) ≡ take k ms ++ made ∷ [] = take_more_set ms k made within in
     let size : length (take k ms) ≡ k = length-take k ms ∙ omega (arith, within) in
     let same : listed false now' (length ys) (take k ms) ≡ listed false now (length ys) (take k ms)
-      = listed_same false now now' (length ys) (take k ms) keeps.size
-        (λ j inside.
-          let early : j < k = omega (arith, inside, size) in
-          let at : slice_index (take k ms) j ≡ slice_index ms j = get_or-take k ms j 0 early in
-          ap (block_of now') at ∙ keeps.blocks j early ∙ ap (block_of now) (sym at)) in
+    = listed_same false now now' (length ys) (take k ms) keeps.size
+    (λ j inside.
+    let early : j < k = omega (arith, inside, size) in
+    let at : slice_index (take k ms) j ≡ slice_index ms j = get_or-take k ms j 0 early in
+    ap (block_of now') at ∙ keeps.blocks j early ∙ ap (block_of now) (sym at)) in
     let read : map_at now' 1 (used_in (length ys) (length (take k ms))) made ≡ Ok (piece k ys)
-      = ap (λ (n : ℕ). map_at now' 1 (used_in (length ys) n) made) size ∙ next.reads in
+    = ap (λ (n : ℕ). map_at now' 1 (used_in (length ys) n) made) size ∙ next.reads in
     record {
       size = keeps.size ∙ so_far.size;
       listed =
-        ap (listed false now' (length ys)) front
-        ∙ listed_push now' (length ys) made (take k ms) (take (252 * k) ys) (piece k ys) (same ∙ so_far.listed) read
-        ∙ ap Ok (take_piece k ys);
+          ap (listed false now' (length ys)) front
+          ∙ listed_push now' (length ys) made (take k ms) (take (252 * k) ys) (piece k ys) (same ∙ so_far.listed) read
+          ∙ ap Ok (take_piece k ys);
       taken =
-        so_far.taken
-        ∙ ap (λ (t : List ℕ). fresh ls (take k ms) ++ t) next.taken
-        ∙ sym (append_assoc (fresh ls (take k ms)) (if nat_eq (slice_index ls k) made then [] else made ∷ []) after')
-        ∙ ap (λ (n : ℕ). (fresh ls (take k ms) ++ (if nat_eq (slice_index ls n) made then [] else made ∷ [])) ++ after') (sym size)
-        ∙ ap (λ (t : List ℕ). t ++ after') (sym (fresh_push ls (take k ms) made))
-        ∙ ap (λ (t : List ℕ). fresh ls t ++ after') (sym front);
+          so_far.taken
+          ∙ ap (λ (t : List ℕ). fresh ls (take k ms) ++ t) next.taken
+          ∙ sym (append_assoc (fresh ls (take k ms)) (if nat_eq (slice_index ls k) made then [] else made ∷ []) after')
+          ∙ ap (λ (n : ℕ). (fresh ls (take k ms) ++ (if nat_eq (slice_index ls n) made then [] else made ∷ [])) ++ after') (sym size)
+          ∙ ap (λ (t : List ℕ). t ++ after') (sym (fresh_push ls (take k ms) made))
+          ∙ ap (λ (t : List ℕ). fresh ls t ++ after') (sym front);
       named = each_more (λ j. is_address (length all) (slice_index (slice_set ms k made) j) ≡ true) k
-        (λ j early. ap (is_address (length all)) (put_before ms k made j early) ∙ so_far.named j early)
-        (ap (is_address (length all)) (put_here ms k made within) ∙ next.named);
+          (λ j early. ap (is_address (length all)) (put_before ms k made j early) ∙ so_far.named j early)
+          (ap (is_address (length all)) (put_here ms k made within) ∙ next.named);
       apart = each_more (λ j. holds after' (slice_index (slice_set ms k made) j) ≡ false) k
-        (λ j early. ap (holds after') (put_before ms k made j early) ∙ keeps.apart (slice_index ms j) (so_far.apart j early))
-        (ap (holds after') (put_here ms k made within) ∙ next.apart);
+          (λ j early. ap (holds after') (put_before ms k made j early) ∙ keeps.apart (slice_index ms j) (so_far.apart j early))
+          (ap (holds after') (put_here ms k made within) ∙ next.apart);
       shares = each_more (λ j. piece j ys ≡ piece j xs → slice_index (slice_set ms k made) j ≡ slice_index ls j) k
-        (λ j early is. put_before ms k made j early ∙ so_far.shares j early is)
-        (λ is. put_here ms k made within ∙ next.shares is);
+          (λ j early is. put_before ms k made j early ∙ so_far.shares j early is)
+          (λ is. put_here ms k made within ∙ next.shares is);
       differs = each_more (λ j. slice_index (slice_set ms k made) j ≡ slice_index ls j → piece j ys ≡ piece j xs) k
-        (λ j early is. so_far.differs j early (sym (put_before ms k made j early) ∙ is))
-        (λ is. next.differs (sym (put_here ms k made within) ∙ is));
+          (λ j early is. so_far.differs j early (sym (put_before ms k made j early) ∙ is))
+          (λ is. next.differs (sym (put_here ms k made within) ∙ is));
     }

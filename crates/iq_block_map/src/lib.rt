@@ -5,16 +5,16 @@
 //! writes a block that an old reference reaches.
 #![tactic(auto)]
 
-
 mod editing;
 mod maps;
+mod pages;
 mod reading;
 mod refs;
 mod taker;
 mod writing;
 
-
 pub use editing::remap;
+pub use pages::{push, with_page};
 pub use reading::{addresses, blocks, page};
 pub use refs::{MapFault, Ref};
 pub use taker::Taker;

@@ -43,7 +43,9 @@ pub fn is_map(count: u32, level: u32, used: usize, at: u32, block: &Block) -> bo
     requires { used ≤ 252 }
     ensures { result ≡ is_map count level used at block.now }
 {
-    has_header(MAP, at, block) && number_at(block, 12) == level && are_places(count, used, &places_of(block))
+    has_header(MAP, at, block)
+        && number_at(block, 12) == level
+        && are_places(count, used, &places_of(block))
 }
 
 /// Whether so many numbers name blocks, and the others are zero.

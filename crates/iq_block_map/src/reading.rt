@@ -1,5 +1,5 @@
 //! Reading objects.
-ghost use Rattle.std.specs.Prelude.{◌≡◌, ◌≤◌, ◌<◌, ◌*◌, ◌+◌, ◌-◌, ◌++◌, ℕ, true, false, List, [], Some, Ok, Err, length, take, drop, IfOk, IfErr, OnOk, nat_eq, replicate};
+ghost use Rattle.std.specs.Prelude.{◌≡◌, ◌≤◌, ◌<◌, ◌^◌, ◌*◌, ◌+◌, ◌-◌, ◌++◌, ℕ, true, false, List, [], Some, Ok, Err, length, take, drop, IfOk, IfErr, OnOk, nat_eq, replicate};
 ghost use Rattle.std.specs.List.{list_all};
 ghost use Rattle.iq_outside.specs.Devices.{block_of};
 ghost use Rattle.iq_block_store.specs.Frames.{has_header, payload_of};
@@ -37,6 +37,7 @@ pub fn used_in(pages: u32, k: u32) -> usize
 pub fn count_of<D: Device>(disk: &mut D) -> Result<u32, MapFault>
     ensures looked { HasLooked D.blocks D.faults D.tells D.clock D.image disk.old disk.new }
     ensures count { IfOk result (λ n. (all : List (List ℕ)) → D.blocks disk.old ≡ Some all → n ≡ length all) }
+    ensures fits { IfOk result (λ n. n < 2 ^ 32) }
     ensures cause { IfErr result (λ e. IsStoreFault e (D.faults disk.old) (D.faults disk.new)) }
 {
     let before = disk.faults();
@@ -70,7 +71,10 @@ pub fn read_map<D: Device>(
     match read(disk, at, MAP, &mut block) {
         Ok(()) if is_map(count, level, used, at, &block) => Ok(places_of(&block)),
         Ok(()) | Err(BlockFault::BadHeader { .. }) => Err(MapFault::BadMap { block: at }),
-        Err(BlockFault::StoreFault { before, after }) => Err(MapFault::StoreFault { before, after }),
+        Err(BlockFault::StoreFault { before, after }) => Err(MapFault::StoreFault {
+            before,
+            after,
+        }),
     }
 }
 
@@ -89,7 +93,13 @@ pub fn leaves_of<D: Device>(disk: &mut D, count: u32, object: Ref) -> Result<Pla
     if object.pages <= 252 {
         return Ok(only_leaf(object));
     }
-    read_map(disk, count, 2, leaf_count(object.pages) as usize, object.root)
+    read_map(
+        disk,
+        count,
+        2,
+        leaf_count(object.pages) as usize,
+        object.root,
+    )
 }
 
 /// The leaf of an object of at most 252 pages.
@@ -106,12 +116,7 @@ fn only_leaf(object: Ref) -> Places
 }
 
 /// Reads a page and answers its block. It takes no memory.
-pub fn page<D: Device>(
-    disk: &mut D,
-    object: Ref,
-    n: u32,
-    into: &mut Page,
-) -> Result<u32, MapFault>
+pub fn page<D: Device>(disk: &mut D, object: Ref, n: u32, into: &mut Page) -> Result<u32, MapFault>
     requires object { IsIn (D.blocks disk.old) object }
     requires page { n < object.pages }
     ensures looked { HasLooked D.blocks D.faults D.tells D.clock D.image disk.old disk.new }
@@ -143,17 +148,16 @@ fn read_page<D: Device>(disk: &mut D, at: u32, into: &mut Page) -> Result<(), Ma
             Ok(())
         }
         Err(BlockFault::BadHeader { .. }) => Err(MapFault::BadMap { block: at }),
-        Err(BlockFault::StoreFault { before, after }) => Err(MapFault::StoreFault { before, after }),
+        Err(BlockFault::StoreFault { before, after }) => Err(MapFault::StoreFault {
+            before,
+            after,
+        }),
     }
 }
 
 /// The blocks of an object's pages, in order. It reads each map of the object once and no page: one block for up to 252 pages,
 /// else one for each 252 pages begun and one more.
-pub fn addresses<D: Device>(
-    alloc: Global,
-    disk: &mut D,
-    object: Ref,
-) -> Result<Vec<u32>, MapFault>
+pub fn addresses<D: Device>(alloc: Global, disk: &mut D, object: Ref) -> Result<Vec<u32>, MapFault>
     requires object { IsIn (D.blocks disk.old) object }
     ensures looked { HasLooked D.blocks D.faults D.tells D.clock D.image disk.old disk.new }
     ensures ok { IfOk result (λ xs. (all : List (List ℕ)) → D.blocks disk.old ≡ Some all → addresses_of all object ≡ Ok xs.items) }

@@ -29,7 +29,10 @@ impl fmt::Display for MapFault {
             MapFault::StoreFault { before, after } => {
                 write!(f, "the device failed: {before} to {after}")
             }
-            MapFault::BadMap { block } => write!(f, "block {block} is no map or page of its object"),
+            MapFault::BadMap { block } => write!(
+                f,
+                "block {block} is no map or page of its object"
+            ),
             MapFault::NoSpace => f.write_str("no block is left"),
             MapFault::NoMemory => f.write_str("no memory"),
         }

@@ -29,7 +29,10 @@ pub fn put<D: Device, T: Taker>(
     };
     match write(disk, at, kind, level, payload) {
         Ok(()) => Ok(at),
-        Err(BlockFault::StoreFault { before, after }) => Err(MapFault::StoreFault { before, after }),
+        Err(BlockFault::StoreFault { before, after }) => Err(MapFault::StoreFault {
+            before,
+            after,
+        }),
         Err(BlockFault::BadHeader { .. }) => unreachable!(),
     }
 }

@@ -11,8 +11,8 @@ returns-then-is_empty-2-clause-put g c = put_none _ _ _ _ _ _ _ _ (looked_same _
 pub returns-then-eq-clause-ok : goal.returns-then-eq-clause-ok
 returns-then-eq-clause-ok g c = λ all xs told at now is. inl record {
   pages = stays_same _ c.args.leaf.used xs (replaced_from c.args.leaf.first xs c.args.here.now) c.in_ok-before.before c.edit-places.result c.args.more.now
-    (leaf_at all c.args.leaf.used c.args.leaf.at) at (c.in_ok-before.ensures.ok all told) (search rules) c.requires.room c.in_ok-before.ensures.padded
-    (length-replaced c.args.leaf.first xs c.args.here.now) (c.requires.more all told) (c.edit-places.ensures xs) (search rules);
+      (leaf_at all c.args.leaf.used c.args.leaf.at) at (c.in_ok-before.ensures.ok all told) (search rules) c.requires.room c.in_ok-before.ensures.padded
+      (length-replaced c.args.leaf.first xs c.args.here.now) (c.requires.more all told) (c.edit-places.ensures xs) (search rules);
   leaf = refl;
   left = refl;
   blocks = told_same _ _ now all c.in_ok-before.ensures.looked.unchanged is told;

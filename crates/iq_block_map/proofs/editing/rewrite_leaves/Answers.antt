@@ -49,12 +49,15 @@ pub returns-in_err-leaves-clause-cause : goal.returns-in_err-leaves-clause-cause
 returns-in_err-leaves-clause-cause g c =
     let p = err_from_is_err_and c.from_residual.result c.from_residual.ensures.1 in
     rw (p.1, p.2) (edit_fault_on _ _ c.in_err-leaves.field-0.0 _ _ _ _ _ _ _ c.loop-k.invariant.put.later (omega arith)
-      (λ b all told.
-        let there = c.loop-k.invariant.put.content all told in
-        (there.0, there.1, λ bad opened.
+    (λ b all told.
+    let there = c.loop-k.invariant.put.content all told in (
+      there.0,
+      there.1,
+      λ bad opened.
           bad_leaf all there.0 c.args.old c.args.before.now _ _ _ c.loop-k.k b _ c.used_in.result opened there.2 c.loop-k.invariant.put.left
-            (omega (arith, c.requires.most)) c.used_in.ensures (untouched_at c.args.before.now c.loop-k.leaves c.loop-k.k c.loop-k.invariant.untouched) bad.0 bad.1))
-      c.in_err-leaves.ensures.cause)
+          (omega (arith, c.requires.most)) c.used_in.ensures (untouched_at c.args.before.now c.loop-k.leaves c.loop-k.k c.loop-k.invariant.untouched) bad.0 bad.1,
+    ))
+    c.in_err-leaves.ensures.cause)
 
 pub loop-k-preserved : goal.loop-k-preserved
 loop-k-preserved g c =
@@ -66,30 +69,30 @@ loop-k-preserved g c =
       long = length-set c.loop-k.leaves c.loop-k.k c.in_ok-leaves.field-0 ∙ c.loop-k.invariant.long;
       untouched = untouched_more c.args.before.now c.loop-k.leaves c.loop-k.k c.in_ok-leaves.field-0 c.loop-k.invariant.untouched;
       so_far = λ all xs told opened now' told'.
-        let ys = edited xs c.args.changed.now c.args.added.now in
-        let mid = c.loop-k.invariant.put.content all told in
-        let lc = leaf_count c.args.old.pages in
-        let fits : lc ≤ 252 = omega (arith, c.requires.most) in
-        let size : length (take lc c.args.before.now) ≡ lc = length-take lc c.args.before.now ∙ omega (arith, fits, opened.may.size) in
-        let count : length xs ≡ c.args.old.pages = listed_count all c.args.old.pages (take lc c.args.before.now) xs opened.listed (omega (arith, size)) in
-        let pages : length ys ≡ c.args.old.pages + length c.args.added.now = length-edited xs c.args.changed.now c.args.added.now ∙ omega (arith, count) in
-        let within : c.loop-k.k < leaf_count (c.args.old.pages + length c.args.added.now) = omega (arith, c.loop-k-test.true, c.leaf_count-k-end.ensures) in
-        let spare = spare_after _ _ _ _ _ _ _ _ _ c.requires.spare c.loop-k.invariant.put in
-        let pieces = piece_at c.loop-k.k c.args.old.pages xs ys c.loop-k.to_change.now c.loop-k.to_add.now count c.loop-k.invariant.changes (c.loop-k.invariant.rest xs count) in
-        let pieced : piece c.loop-k.k ys ≡ replaced_from (252 * c.loop-k.k) (piece c.loop-k.k xs) c.split_at.result.0.now ++ c.split_at-in-loop-k.result.0.now
+          let ys = edited xs c.args.changed.now c.args.added.now in
+          let mid = c.loop-k.invariant.put.content all told in
+          let lc = leaf_count c.args.old.pages in
+          let fits : lc ≤ 252 = omega (arith, c.requires.most) in
+          let size : length (take lc c.args.before.now) ≡ lc = length-take lc c.args.before.now ∙ omega (arith, fits, opened.may.size) in
+          let count : length xs ≡ c.args.old.pages = listed_count all c.args.old.pages (take lc c.args.before.now) xs opened.listed (omega (arith, size)) in
+          let pages : length ys ≡ c.args.old.pages + length c.args.added.now = length-edited xs c.args.changed.now c.args.added.now ∙ omega (arith, count) in
+          let within : c.loop-k.k < leaf_count (c.args.old.pages + length c.args.added.now) = omega (arith, c.loop-k-test.true, c.leaf_count-k-end.ensures) in
+          let spare = spare_after _ _ _ _ _ _ _ _ _ c.requires.spare c.loop-k.invariant.put in
+          let pieces = piece_at c.loop-k.k c.args.old.pages xs ys c.loop-k.to_change.now c.loop-k.to_add.now count c.loop-k.invariant.changes (c.loop-k.invariant.rest xs count) in
+          let pieced : piece c.loop-k.k ys ≡ replaced_from (252 * c.loop-k.k) (piece c.loop-k.k xs) c.split_at.result.0.now ++ c.split_at-in-loop-k.result.0.now
           = rw (c.split_at.ensures.front, c.count_below.ensures, c.split_at-in-loop-k.ensures.front, c.min.ensures, c.used_in.ensures) pieces.here in
-        leaf_done all mid.0 now' c.args.old xs ys c.args.before.now c.loop-k.leaves _ _ _ _ c.loop-k.k (slice_index c.loop-k.leaves c.loop-k.k) c.in_ok-leaves.field-0
+          leaf_done all mid.0 now' c.args.old xs ys c.args.before.now c.loop-k.leaves _ _ _ _ c.loop-k.k (slice_index c.loop-k.leaves c.loop-k.k) c.in_ok-leaves.field-0
           (c.loop-k.invariant.so_far all xs told opened mid.0 mid.1) opened count (omega (arith, c.requires.most)) mid.2 c.loop-k.invariant.put.left
           (omega (arith, c.requires.count all told, c.ranges.count.fits)) c.loop-k.invariant.long (omega (arith, within, c.requires.most)) (omega (arith, within, pages))
           (untouched_at c.args.before.now c.loop-k.leaves c.loop-k.k c.loop-k.invariant.untouched)
           (all_edited (λ a. is_address (length all) a ≡ true) xs c.args.changed.now c.args.added.now
-            (listed_names all c.args.old.pages (take lc c.args.before.now) xs opened.listed) (c.requires.changed all told) (c.requires.added all told))
+          (listed_names all c.args.old.pages (take lc c.args.before.now) xs opened.listed) (c.requires.changed all told) (c.requires.added all told))
           spare.distinct
           (subst (λ (n : ℕ). All (λ b. is_address n b ≡ true) (g.T.Taker.left c.loop-k.space)) mid.2.size (spare.inside mid.0 mid.1))
           (λ read. rw pieced (c.in_ok-leaves.ensures.ok mid.0 (piece c.loop-k.k xs) mid.1 (rw (c.used_in.ensures, ← count) read) now' told'));
       rest = λ xs size.
-        rw (c.split_at.ensures.back, c.count_below.ensures, c.split_at-in-loop-k.ensures.back, c.min.ensures, c.used_in.ensures)
-        (piece_at c.loop-k.k c.args.old.pages xs (edited xs c.args.changed.now c.args.added.now) c.loop-k.to_change.now c.loop-k.to_add.now size c.loop-k.invariant.changes (c.loop-k.invariant.rest xs size)).later;
+          rw (c.split_at.ensures.back, c.count_below.ensures, c.split_at-in-loop-k.ensures.back, c.min.ensures, c.used_in.ensures)
+          (piece_at c.loop-k.k c.args.old.pages xs (edited xs c.args.changed.now c.args.added.now) c.loop-k.to_change.now c.loop-k.to_add.now size c.loop-k.invariant.changes (c.loop-k.invariant.rest xs size)).later;
     }
 
 pub returns-clause-ok : goal.returns-clause-ok
@@ -102,4 +105,4 @@ returns-clause-ok g c = λ all xs told opened now told_now.
     let pages : length ys ≡ c.args.old.pages + length c.args.added.now = length-edited xs c.args.changed.now c.args.added.now ∙ omega (arith, count) in
     let end : c.loop-k.k ≡ leaf_count (length ys) = omega (arith, c.loop-k-test.false, c.loop-k.auto.k-end, c.leaf_count-k-end.ensures, pages) in
     leaves_done all now c.args.old xs (edited xs c.args.changed.now c.args.added.now) c.args.before.now c.loop-k.leaves _ _ c.loop-k.k
-      (c.loop-k.invariant.so_far all xs told opened now told_now) opened end (omega (arith, pages)) (omega (arith, pages, c.requires.most)) c.loop-k.invariant.long c.loop-k.invariant.untouched
+    (c.loop-k.invariant.so_far all xs told opened now told_now) opened end (omega (arith, pages)) (omega (arith, pages, c.requires.most)) c.loop-k.invariant.long c.loop-k.invariant.untouched

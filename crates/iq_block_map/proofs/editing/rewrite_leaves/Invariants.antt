@@ -14,7 +14,7 @@ invariant-loop-k g l = record {
   untouched : drop l.k l.leaves ≡ drop l.k l.before;
   so_far : (all : List (List ℕ)) (xs : List ℕ) → g.D.Device.blocks l.fn.disk ≡ Some all → IsOpened all l.old l.before xs (g.T.Taker.left l.fn.space)
       → IsNowIn (λ now. IsSoFar all now xs (edited xs l.changed l.added) l.before l.leaves (g.T.Taker.left l.fn.space) (g.T.Taker.left l.space) l.k)
-        (g.D.Device.blocks l.disk);
+      (g.D.Device.blocks l.disk);
   rest : (xs : List ℕ) → length xs ≡ l.old.pages
       → drop (252 * l.k) (edited xs l.changed l.added) ≡ replaced_from (252 * l.k) (drop (252 * l.k) xs) l.to_change ++ l.to_add;
 }

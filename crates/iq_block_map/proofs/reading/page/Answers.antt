@@ -7,9 +7,10 @@ pub read_map-requires-clause-told : goal.read_map-requires-clause-told
 read_map-requires-clause-told g c = λ all told.
     let before = sym c.in_ok-leaves.ensures.looked.unchanged ∙ told in
     let first = sym c.in_ok-count.ensures.looked.unchanged ∙ before in
-    let within : c.args.n / 252 < leaf_count c.args.object.pages = omega (arith, c.requires.page) in
-    (c.in_ok-count.ensures.count all first,
-      below_count _ (leaf_count c.args.object.pages) (c.args.n / 252) c.in_ok-leaves.leaves (c.in_ok-leaves.ensures.places all before) within (omega (arith, c.requires.object.few)))
+    let within : c.args.n / 252 < leaf_count c.args.object.pages = omega (arith, c.requires.page) in (
+      c.in_ok-count.ensures.count all first,
+      below_count _ (leaf_count c.args.object.pages) (c.args.n / 252) c.in_ok-leaves.leaves (c.in_ok-leaves.ensures.places all before) within (omega (arith, c.requires.object.few)),
+    )
 
 pub read_page-requires : goal.read_page-requires
 read_page-requires g c = λ all told.
