@@ -1,6 +1,6 @@
 //! What no clause says: that calls succeed, how many blocks they take, and how many they read.
-ghost use Rattle.std.specs.Prelude.{◌≡◌, ◌≤◌, ◌<◌, true, List, ℕ, Some, length, IsTrue, IfOk};
-ghost use Rattle.std.specs.List.{All};
+ghost use Rattle.std.specs.Prelude.{◌≡◌, ◌-◌, true, List, ℕ, Option, Some, length, IsTrue, IfOk};
+ghost use Rattle.std.specs.List.{All, range_with_len};
 ghost use Rattle.iq_block_map.specs.Maps.{is_address};
 ghost use Rattle.iq_block_map.specs.Refs.{IsIn};
 ghost use Rattle.iq_block_map.specs.Takers.{AreSpare};
@@ -27,9 +27,6 @@ struct Spares {
 }
 
 impl Taker for Spares {
-    ghost use Rattle.std.specs.Prelude.{◌-◌};
-    ghost use Rattle.std.specs.List.{range_with_len};
-
     ghost left = { λ s. range_with_len s.next (s.end - s.next) };
 
     fn take(&mut self) -> Option<u32> {
@@ -66,7 +63,10 @@ fn zeros(alloc: Global, count: u32) -> Result<SureDevice, Fail> {
 }
 
 /// Counts, and tells whether an object may stand in the device.
-fn count_for<D: Device>(disk: &mut D, object: Ref) -> Result<u32, MapFault> {
+fn count_for<D: Device>(disk: &mut D, object: Ref) -> Result<u32, MapFault>
+    ensures count { IfOk result (λ n. (all : List (List ℕ)) → D.blocks disk.new ≡ Some all → n ≡ length all) }
+    ensures object { IfOk result (λ _. IsIn (D.blocks disk.new) object) }
+{
     let count = disk.count().map_err(|_| NO_CALL)?;
     let inside = object.pages == 0 || 4 <= object.root && object.root < count;
     if inside && object.pages <= 63504 {
@@ -76,8 +76,20 @@ fn count_for<D: Device>(disk: &mut D, object: Ref) -> Result<u32, MapFault> {
     }
 }
 
-fn are_blocks(count: u32, blocks: &[u32]) -> bool {
+/// Whether pages may be in these blocks, of so many.
+#[tactic(auto, using(crate::proofs::NamedLemmas::each_of))]
+fn are_blocks(count: u32, blocks: &[u32]) -> bool
+    ensures { IsTrue result → All (λ a. is_address count a ≡ true) blocks.now }
+{
     blocks.iter().all(|a| 4 <= *a && *a < count)
+}
+
+/// Whether the spare blocks are some of so many.
+fn are_spare(count: u32, space: &Spares) -> bool
+    ensures { IsTrue result → (told : Option (List (List ℕ))) → ((all : List (List ℕ)) → told ≡ Some all → count ≡ length all)
+        → AreSpare told (range_with_len space.now.next (space.now.end - space.now.next)) }
+{
+    4 <= space.next && space.end <= count
 }
 
 /// Counts, and adds pages where that may be done.
@@ -89,8 +101,7 @@ fn add<D: Device>(
 ) -> Result<Ref, MapFault> {
     let count = count_for(disk, old)?;
     if are_blocks(count, added)
-        && 4 <= space.next
-        && space.end <= count
+        && are_spare(count, space)
         && added.len() <= 63504 - old.pages as usize
     {
         remap(disk, space, old, &[], added)
@@ -108,7 +119,7 @@ fn change<D: Device>(
     at: u32,
 ) -> Result<Ref, MapFault> {
     let count = count_for(disk, old)?;
-    if are_blocks(count, &[at]) && 4 <= space.next && space.end <= count && n < old.pages {
+    if are_blocks(count, &[at]) && are_spare(count, space) && n < old.pages {
         remap(disk, space, old, &[(n, at)], &[])
     } else {
         Err(NO_CALL)
@@ -150,7 +161,7 @@ fn put<D: Device>(
     byte: u8,
 ) -> Result<Ref, MapFault> {
     let count = count_for(disk, object)?;
-    if space.next < 4 || count < space.end {
+    if !are_spare(count, space) {
         Err(NO_CALL)
     } else if n < object.pages {
         with_page(disk, space, object, n, &[byte; 1008])
