@@ -67,12 +67,10 @@ fn count_for<D: Device>(disk: &mut D, object: Ref) -> Result<u32, MapFault>
     ensures count { IfOk result (λ n. (all : List (List ℕ)) → D.blocks disk.new ≡ Some all → n ≡ length all) }
     ensures object { IfOk result (λ _. IsIn (D.blocks disk.new) object) }
 {
-    let count = disk.count().map_err(|_| NO_CALL)?;
-    let inside = object.pages == 0 || 4 <= object.root && object.root < count;
-    if inside && object.pages <= 63504 {
-        Ok(count)
-    } else {
-        Err(NO_CALL)
+    match disk.count() {
+        Ok(count) if object.pages == 0 => Ok(count),
+        Ok(count) if object.pages <= 63504 && 4 <= object.root && object.root < count => Ok(count),
+        _ => Err(NO_CALL),
     }
 }
 
@@ -180,9 +178,9 @@ fn frame<D: Device>(
     level: u32,
     payload: &Page,
 ) -> Result<(), Fail> {
-    let count = disk.count().map_err(|_| "no count")?;
-    if at < count {
-        write(disk, at, kind, level, payload)?;
+    match disk.count() {
+        Ok(count) if at < count => write(disk, at, kind, level, payload)?,
+        _ => return Err("no such block".into()),
     }
     Ok(())
 }
