@@ -9,3 +9,4 @@ pub mod NextLemmas
 pub mod RewriteLemmas
 pub mod NamedLemmas
 pub mod TopLemmas
+pub mod ReachLemmas

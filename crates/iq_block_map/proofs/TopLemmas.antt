@@ -62,16 +62,19 @@ pub listed_from : (all : List (List ℕ)) (object : Ref) (ls xs : List ℕ) → 
     → addresses_of all object ≡ Ok xs → listed false all object.pages ls ≡ Ok xs
 listed_from all object ls xs leaves is = sym (addresses_from all object ls (listed false all object.pages ls) leaves refl) ∙ is
 
-leaves_one : (all : List (List ℕ)) (object : Ref) → 1 ≤ object.pages → object.pages ≤ 252 → leaves_of all object ≡ Ok (object.root ∷ [])
+pub leaves_one : (all : List (List ℕ)) (object : Ref) → 1 ≤ object.pages → object.pages ≤ 252 → leaves_of all object ≡ Ok (object.root ∷ [])
 leaves_one all object some few = rw (ne_eqb object.pages 0 (omega (arith, some)), le-leb object.pages 252 few) refl
 
-leaves_many : (all : List (List ℕ)) (object : Ref) → 252 < object.pages → leaves_of all object ≡ map_at all 2 (leaf_count object.pages) object.root
+pub leaves_none : (all : List (List ℕ)) (object : Ref) → object.pages ≡ 0 → leaves_of all object ≡ Ok []
+leaves_none all object none = rw (eq-eqb object.pages 0 none) refl
+
+pub leaves_many : (all : List (List ℕ)) (object : Ref) → 252 < object.pages → leaves_of all object ≡ map_at all 2 (leaf_count object.pages) object.root
 leaves_many all object many = rw (ne_eqb object.pages 0 (omega (arith, many)), lt-leb object.pages 252 many) refl
 
 top_none : (object : Ref) → object.pages ≤ 252 → top_of true object ≡ []
 top_none object few = rw (le-ltb 252 object.pages few) refl
 
-top_one : (object : Ref) → 252 < object.pages → top_of true object ≡ object.root ∷ []
+pub top_one : (object : Ref) → 252 < object.pages → top_of true object ≡ object.root ∷ []
 top_one object many = rw (lt-ltb 252 object.pages many) refl
 
 ref_same : (a b : Ref) → a.root ≡ b.root → a.pages ≡ b.pages → a ≡ b
@@ -292,7 +295,7 @@ remap_done all mid now old new ls ms xs ys before left after taken rebuilt size 
     done_new all mid now old new ls ms xs ys before left after taken rebuilt size made
 
 -- an object has as many pages as it says
-leaves_count : (all : List (List ℕ)) (object : Ref) (ls : List ℕ) → object.pages ≤ 63504 → leaves_of all object ≡ Ok ls → object.pages ≤ 252 * length ls
+pub leaves_count : (all : List (List ℕ)) (object : Ref) (ls : List ℕ) → object.pages ≤ 63504 → leaves_of all object ≡ Ok ls → object.pages ≤ 252 * length ls
 leaves_count all object ls few is = elim (cases_lt 252 object.pages) [
   | inl many ↦
       (let size : length ls ≡ leaf_count object.pages
@@ -305,6 +308,23 @@ leaves_count all object ls few is = elim (cases_lt 252 object.pages) [
     | inr none ↦ omega (arith, none)
   ])
 ]
+
+-- and no more leaves than these take
+pub leaves_fit : (all : List (List ℕ)) (object : Ref) (ls : List ℕ) → object.pages ≤ 63504 → leaves_of all object ≡ Ok ls → length ls ≤ leaf_count object.pages
+leaves_fit all object ls few is = elim (cases_lt 252 object.pages) [
+    inl many ↦
+      (let size : length ls ≡ leaf_count object.pages
+        = length_map all 2 (leaf_count object.pages) object.root ls (sym (leaves_many all object many) ∙ is) (omega (arith, few)) in
+      omega (arith, size))
+  | inr less ↦ (elim (cases_lt 0 object.pages) [
+      inl some ↦
+        (let one : object.root ∷ [] ≡ ls = ok_is (object.root ∷ []) ls (leaves_of all object) (leaves_one all object (omega (arith, some)) less) is in
+        omega (arith, some, ap length one))
+    | inr none ↦
+        (let no_one : [] ≡ ls = ok_is [] ls (leaves_of all object) (leaves_none all object (omega (arith, none))) is in
+        omega (arith, ap length no_one))
+    ])
+  ]
 
 pub addresses_count : (all : List (List ℕ)) (object : Ref) (xs : List ℕ) → object.pages ≤ 63504 → addresses_of all object ≡ Ok xs → length xs ≡ object.pages
 addresses_count all object xs few is = go (leaves_of all object) refl

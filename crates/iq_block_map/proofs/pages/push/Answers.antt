@@ -1,0 +1,2 @@
+use Rattle.iq_block_map.proofs.ReachLemmas.{address_at}
+use Rattle.iq_block_map.proofs.pages.push.Goals as goal
