@@ -1,18 +1,20 @@
 -- An object reads the same where no block that it reaches was written.
-use Rattle.std.specs.Prelude.{◌≡◌, ◌≢◌, ◌⊎◌, ℕ, zero, suc, ◌+◌, ◌-◌, ◌*◌, ◌/◌, ◌%◌, ◌<◌, ◌≤◌, Bool, true, false, ◌&&◌, List, [], ◌∷◌, ◌++◌, length, take, drop, map, nat_eq, slice_index, slice_index_or, slice_set, if◌then◌else◌, Result, Ok, Err, Option, Some, None}
-use Rattle.std.specs.List.{All, list_all}
+use Rattle.std.specs.Prelude.{◌≡◌, ◌≢◌, ◌⊎◌, ℕ, zero, suc, ◌+◌, ◌-◌, ◌*◌, ◌/◌, ◌%◌, ◌^◌, ◌<◌, ◌≤◌, Bool, true, false, ◌&&◌, List, [], ◌∷◌, ◌++◌, length, take, drop, map, nat_eq, slice_index, slice_index_or, slice_set, if◌then◌else◌, Result, Ok, Err, Option, Some, None, IfOk, IfErr}
+use Rattle.std.specs.List.{All, list_all, IsDistinct}
 use Rattle.std.proofs.Common.{refl, sym, ap, subst, ◌∙◌, inl, inr, arith}
 use Rattle.std.proofs.lemmas.List.{get_or-take, get_or-drop, length-take, length-drop}
 use Rattle.std.proofs.lemmas.Bool.{and_parts, cases_lt}
 use Rattle.iq_outside.specs.Devices.{block_of}
-use Rattle.iq_block_store.specs.Frames.{has_header, payload_of}
+use Rattle.iq_block_store.specs.Frames.{has_header, payload_of, framed}
+use Rattle.iq_block_store.proofs.FrameLemmas.{has_header-framed, payload_of-framed}
 use Rattle.iq_block_map.specs.declared.refs.Ref.{Ref}
 use Rattle.iq_block_map.specs.Maps.{page_kind}
 use Rattle.iq_block_map.specs.Objects.{leaf_count, used_in, map_at, leaves_of, listed, listed_in, joined, address_of, address_in, addresses_of, at_place, top_of, contents, pages_of}
 use Rattle.iq_block_map.specs.Writing.{holds, SameBeside}
-use Rattle.iq_block_map.specs.Editing.{piece, AreApart}
+use Rattle.iq_block_map.specs.Editing.{piece, AreApart, IsBadMap}
 use Rattle.iq_block_map.proofs.PutLemmas.{holds-append}
 use Rattle.iq_block_map.proofs.StepLemmas.{listed_same, listed_at, map_same, ok_is, length_map}
+use Rattle.iq_block_map.proofs.NextLemmas.{distinct_parts}
 use Rattle.iq_block_map.proofs.TopLemmas.{leaves_one, leaves_many, leaves_none, top_one, listed_from, addresses_from, leaves_count, leaves_fit, addresses_count}
 
 -- no block that an object reaches is among some that were written, and none among those that may be taken still
@@ -187,3 +189,61 @@ pages_push all [] [] a p are here = (here, tt)
 pages_push all [] (q ∷ ps) a p are here = absurd are
 pages_push all (x ∷ xs) [] a p are here = absurd are
 pages_push all (x ∷ xs) (q ∷ ps) a p are here = (are.0, pages_push all xs ps a p are.1 here)
+
+-- what is known once a page was written and the object remapped
+pub record IsPaged (all mid now : List (List ℕ)) (object : Ref) (before taken left taken' after : List ℕ) (at : ℕ) (from : List ℕ) : Type 0 where
+  pub free : IsFree all mid object before taken left
+  pub first : before ≡ at ∷ left
+  pub distinct : IsDistinct nat_eq before
+  pub fits : at < 2 ^ 32
+  pub block : block_of mid at ≡ framed page_kind at 0 from
+  pub same : SameBeside taken' mid now
+  pub split : left ≡ taken' ++ after
+
+-- the new page is where it was put
+pub new_page : (all mid now : List (List ℕ)) (object : Ref) (before taken left taken' after : List ℕ) (at : ℕ) (from : List ℕ)
+    → IsPaged all mid now object before taken left taken' after at from → HoldsIn now at from
+new_page all mid now object before taken left taken' after at from paged =
+    let parts = distinct_parts at left (subst (IsDistinct nat_eq) paged.first paged.distinct) in
+    let apart = holds-append taken' after at (ap (λ (t : List ℕ). holds t at) (sym paged.split) ∙ parts.0) in
+    let here : block_of now at ≡ framed page_kind at 0 from = paged.same.others at apart.0 ∙ paged.block in
+    record {
+      header = ap (has_header page_kind at) here ∙ has_header-framed page_kind at 0 from (omega arith) paged.fits (omega arith) (inr refl);
+      content = ap payload_of here ∙ payload_of-framed page_kind at 0 from;
+    }
+
+-- the old pages stay where they were
+pub old_pages : (all mid now : List (List ℕ)) (object : Ref) (before taken left taken' after : List ℕ) (at : ℕ) (from xs : List ℕ) (ps : List (List ℕ))
+    → IsPaged all mid now object before taken left taken' after at from → addresses_of all object ≡ Ok xs → ArePages all xs ps → ArePages now xs ps
+old_pages all mid now object before taken left taken' after at from xs ps paged is are = pages_same all now xs ps are
+    (λ i inside.
+      let count = addresses_count all object xs paged.free.few is in
+      let within : i < object.pages = omega (arith, inside, count) in
+      let none = paged.free.apart.pages i (slice_index xs i) within (address_at all object xs i paged.free.few is within) in
+      let free = free_of all mid object before taken left paged.free (slice_index xs i) none in
+      let later = holds-append taken' after (slice_index xs i) (ap (λ (t : List ℕ). holds t (slice_index xs i)) (sym paged.split) ∙ free.1) in
+      paged.same.others (slice_index xs i) later.0 ∙ paged.free.same.others (slice_index xs i) free.0)
+
+-- a result that says as much in other words
+pub ok_on : {T E : Type 0} (P Q : T → Type 0) (r : Result T E) → ((x : T) → P x → Q x) → IfOk r P → IfOk r Q
+ok_on P Q (Ok x) pass is = pass x is
+ok_on P Q (Err e) pass is = tt
+
+pub err_on : {T E : Type 0} (P Q : E → Type 0) (r : Result T E) → ((e : E) → P e → Q e) → IfErr r P → IfErr r Q
+err_on P Q (Ok x) pass is = tt
+err_on P Q (Err e) pass is = pass e is
+
+-- a bad map that is met after something else was written was bad before
+pub bad_before : (all now : List (List ℕ)) (object : Ref) (before taken left : List ℕ) (b : ℕ) → IsFree all now object before taken left
+    → (leaves_of now object ≡ Err b) ⊎ IsBadMap object b now → (leaves_of all object ≡ Err b) ⊎ IsBadMap object b all
+bad_before all now object before taken left b free (inl top) = inl (sym (leaves_same all now object before taken left free) ∙ top)
+bad_before all now object before taken left b free (inr bad) =
+    let leaves : leaves_of all object ≡ Ok bad.ls = sym (leaves_same all now object before taken left free) ∙ bad.leaves in
+    let apart = free_of all now object before taken left free (slice_index bad.ls bad.k) (free.apart.leaves bad.ls leaves bad.k 0 bad.within) in
+    inr record {
+      ls = bad.ls;
+      k = bad.k;
+      leaves = leaves;
+      within = bad.within;
+      bad = sym (map_same all now 1 (used_in object.pages bad.k) (slice_index bad.ls bad.k) free.same.size (free.same.others (slice_index bad.ls bad.k) apart.0)) ∙ bad.bad;
+    }
