@@ -6,7 +6,8 @@ use Rattle.std.proofs.lemmas.List.{take_more, take_at, drop_at, take_all, drop_a
 use Rattle.std.proofs.lemmas.List.Sums.{fold-append}
 use Rattle.std.proofs.lemmas.Bool.{cases_lt, lt-ltb, le-ltb}
 use Rattle.iq_block_map.specs.Objects.{used_in}
-use Rattle.iq_block_map.specs.Editing.{below, replaced_from, edited, piece, padded, AreChanges}
+use Rattle.iq_block_map.specs.Editing.{replaced_from, edited, piece, AreChanges}
+use Rattle.iq_block_map.specs.Leaves.{below, padded}
 
 abbrev change_one : ℕ → List ℕ → ℕ × ℕ → List ℕ
 change_one first ys c = slice_set ys (c.0 - first) c.1

@@ -10,7 +10,7 @@ use Rattle.iq_block_store.proofs.FrameLemmas.{has_header-framed, framed_level, l
 use Rattle.iq_block_map.specs.Maps.{numbers_at, places, is_address, are_places, is_map, map_block}
 use Rattle.iq_block_map.specs.Refs.{MayBe}
 use Rattle.iq_block_map.specs.Objects.{map_at}
-use Rattle.iq_block_map.specs.Editing.{padded}
+use Rattle.iq_block_map.specs.Leaves.{padded}
 use Rattle.iq_block_map.proofs.MapLemmas.{numbers_back, length-places}
 
 zeros_of : (zs : List ℕ) → list_all (nat_eq 0) zs ≡ true → zs ≡ replicate (length zs) 0

@@ -7,7 +7,8 @@ use Rattle.std.proofs.lemmas.Bool.{and_parts, cases_lt, cases_eq}
 use Rattle.iq_outside.specs.Devices.{block_of}
 use Rattle.iq_block_map.specs.Maps.{places, is_address, are_places, is_map}
 use Rattle.iq_block_map.specs.Objects.{leaf_count, used_in, map_at, listed, joined}
-use Rattle.iq_block_map.specs.Editing.{below, edited, replaced_from, new_blocks, AreChanges}
+use Rattle.iq_block_map.specs.Editing.{edited, replaced_from, new_blocks, AreChanges}
+use Rattle.iq_block_map.specs.Leaves.{below}
 use Rattle.iq_block_map.proofs.StepLemmas.{both_parts, length_map}
 use Rattle.iq_block_map.proofs.EditLemmas.{changes_cut, no_changes}
 

@@ -10,7 +10,8 @@ use Rattle.iq_block_map.specs.Refs.{MayBe}
 use Rattle.iq_block_map.specs.Objects.{leaf_count, used_in, map_at, listed, joined}
 use Rattle.iq_block_map.specs.Takers.{AreSpare}
 use Rattle.iq_block_map.specs.Writing.{holds}
-use Rattle.iq_block_map.specs.Editing.{piece, padded, fresh, leaf_at, replaced_from, new_blocks, StaysLeaf, MakesLeaf}
+use Rattle.iq_block_map.specs.Editing.{piece, fresh, replaced_from, new_blocks}
+use Rattle.iq_block_map.specs.Leaves.{padded, leaf_at, StaysLeaf, MakesLeaf}
 use Rattle.iq_block_map.proofs.LeafLemmas.{map_written}
 use Rattle.iq_block_map.proofs.StepLemmas.{NextLeaf, KeepsLeaves, piece_length}
 

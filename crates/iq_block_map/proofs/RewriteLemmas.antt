@@ -11,7 +11,8 @@ use Rattle.iq_block_map.specs.Refs.{MayBe}
 use Rattle.iq_block_map.specs.Objects.{leaf_count, used_in, map_at, listed, joined}
 use Rattle.iq_block_map.specs.Takers.{AreSpare, taken_of}
 use Rattle.iq_block_map.specs.Writing.{holds, SameBeside, AddsBeside, HasPut}
-use Rattle.iq_block_map.specs.Editing.{piece, padded, fresh, leaf_at, edited, replaced_from, new_blocks, EndsLeaf, StaysLeaf, MakesLeaf, IsOpened, AreOpened, IsBadLeaf, HasLeaves, HasLeavesAt}
+use Rattle.iq_block_map.specs.Editing.{piece, fresh, edited, replaced_from, new_blocks}
+use Rattle.iq_block_map.specs.Leaves.{padded, leaf_at, EndsLeaf, StaysLeaf, MakesLeaf, IsOpened, AreOpened, IsBadLeaf, HasLeaves, HasLeavesAt}
 use Rattle.iq_block_map.proofs.PutLemmas.{holds-append}
 use Rattle.iq_block_map.proofs.StepLemmas.{IsSoFar, so_far_more, listed_at, map_same, both_parts, piece_length}
 use Rattle.iq_block_map.proofs.NextLemmas.{distinct_parts, head_apart, stays_next, makes_next, behind_of}

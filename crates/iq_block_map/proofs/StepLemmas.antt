@@ -9,7 +9,8 @@ use Rattle.iq_block_map.specs.Maps.{places, is_address, is_map, map_block}
 use Rattle.iq_block_map.specs.Refs.{MayBe}
 use Rattle.iq_block_map.specs.Objects.{leaf_count, used_in, map_at, joined, front, listed}
 use Rattle.iq_block_map.specs.Writing.{holds, SameBeside}
-use Rattle.iq_block_map.specs.Editing.{piece, padded, fresh, EndsLeaf, StaysLeaf, MakesLeaf}
+use Rattle.iq_block_map.specs.Editing.{piece, fresh}
+use Rattle.iq_block_map.specs.Leaves.{padded, EndsLeaf, StaysLeaf, MakesLeaf}
 use Rattle.iq_block_map.proofs.MapLemmas.{length-places}
 use Rattle.iq_block_map.proofs.LeafLemmas.{map_written}
 

@@ -11,7 +11,8 @@ use Rattle.iq_block_map.specs.Maps.{places, is_address, are_places, is_map, map_
 use Rattle.iq_block_map.specs.Refs.{MayBe}
 use Rattle.iq_block_map.specs.Objects.{leaf_count, used_in, map_at, leaves_of, listed, listed_in, joined, top_of, addresses_of}
 use Rattle.iq_block_map.specs.Writing.{holds, SameBeside}
-use Rattle.iq_block_map.specs.Editing.{piece, padded, fresh, AreApart, IsOpened, HasLeaves, HasLeavesAt, HasRemapped, SharesMaps, OnlyLeaf, SameTop, NewTop, EndsTop, edited}
+use Rattle.iq_block_map.specs.Editing.{piece, fresh, AreApart, HasRemapped, SharesMaps, edited}
+use Rattle.iq_block_map.specs.Leaves.{padded, IsOpened, HasLeaves, HasLeavesAt, OnlyLeaf, SameTop, NewTop, EndsTop}
 use Rattle.iq_block_map.proofs.ObjectLemmas.{joined-nil}
 use Rattle.iq_block_map.proofs.PutLemmas.{holds-append}
 use Rattle.iq_block_map.proofs.LeafLemmas.{padded_of, map_written}

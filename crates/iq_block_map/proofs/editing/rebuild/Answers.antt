@@ -6,7 +6,8 @@ use Rattle.std.proofs.lemmas.List.{get_or-take}
 use Rattle.iq_block_map.specs.Maps.{is_address}
 use Rattle.iq_block_map.specs.Objects.{leaf_count, used_in, map_at}
 use Rattle.iq_block_map.specs.Takers.{AreSpare}
-use Rattle.iq_block_map.specs.Editing.{edited, IsOpened, AreOpened, EndsTop}
+use Rattle.iq_block_map.specs.Editing.{edited}
+use Rattle.iq_block_map.specs.Leaves.{IsOpened, AreOpened, EndsTop}
 use Rattle.iq_block_map.proofs.EditLemmas.{length-edited, change_bounds}
 use Rattle.iq_block_map.proofs.PutLemmas.{put_none, put_then, looked_then}
 use Rattle.iq_block_map.proofs.ReadLemmas.{edit_fault_on}

@@ -4,7 +4,8 @@ use Rattle.std.proofs.lemmas.Result.{err_from_is_err_and}
 use Rattle.iq_block_map.specs.Maps.{is_address}
 use Rattle.iq_block_map.specs.Objects.{leaf_count, used_in}
 use Rattle.iq_block_map.specs.Takers.{taken_of}
-use Rattle.iq_block_map.specs.Editing.{below, edited, piece, replaced_from}
+use Rattle.iq_block_map.specs.Editing.{edited, piece, replaced_from}
+use Rattle.iq_block_map.specs.Leaves.{below}
 use Rattle.iq_block_map.proofs.EditLemmas.{piece_at, edited_start, length-edited, prefix_few}
 use Rattle.iq_block_map.proofs.PutLemmas.{put_none, put_then, looked_same, told_same}
 use Rattle.iq_block_map.proofs.ReadLemmas.{below_count, edit_fault_on}
