@@ -10,3 +10,4 @@ pub mod RewriteLemmas
 pub mod NamedLemmas
 pub mod TopLemmas
 pub mod ReachLemmas
+pub mod FrameLaws

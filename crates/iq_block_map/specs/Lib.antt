@@ -6,3 +6,4 @@ pub mod Takers
 pub mod Writing
 pub mod Editing
 pub mod Leaves
+pub mod Laws
