@@ -11,12 +11,12 @@ use Rattle.iq_world.specs.World.{times, holds, node_at, no_node, latest_of, repo
 use Rattle.iq_world.specs.Space.{all_reserved, times_free, times_loose}
 use Rattle.iq_world.specs.Steps.{possible, change, after, after_all, with_taken, reclaimed, report_taken}
 use Rattle.iq_world.specs.Sound.{IsSound}
-use Rattle.iq_world.specs.Laws.{Spares, Reclaims, ReclaimsAt, StepLaw, EachStep}
+use Rattle.iq_world.specs.Laws.{IsKept, Spares, Reclaims, ReclaimsAt, StepLaw, EachStep}
 use Rattle.iq_world.proofs.Stepping.{good_begin, good_reserve, good_take, good_back, good_end}
 use Rattle.iq_world.proofs.Moving.{good_sync, good_apply, good_send, good_lose, good_restart, good_exclude, good_include}
 use Rattle.iq_world.proofs.Reclaiming.{good_own, good_report_taken, reclaims}
 use Rattle.iq_world.proofs.Committing.{good_commit}
-use Rattle.iq_world.proofs.Rising.{Good, good_same, spared}
+use Rattle.iq_world.proofs.Rising.{Good, good_same, live_kept, spared}
 
 -- where a step isn't possible the world stays
 good_if : (w v : World) (t : Bool) → (t ≡ true → Good w v) → IsSound w → Good w (cond t v w)
@@ -87,6 +87,7 @@ step_law w step g =
             takes = λ b was not. (let held = good.held b in spared v b good.sound (omega arith));
             frees = λ b not now. spared v b good.sound (omega arith);
             free = λ b now. spared v b good.sound (omega arith);
+            kept = live_kept (IsKept v) v good.sound (λ c low high. (low, high));
           };
       reclaims = reclaims_at w step;
     }

@@ -182,9 +182,9 @@ kept_apart w b c s h low high =
     ⊎_elim (λ (z : times b (reach_of w.reach c) ≡ 0). z)
     (λ (p : 0 < times b (reach_of w.reach c)). absurd (let k = s.versions b c low high p in omega arith)) (zero_or_more (times b (reach_of w.reach c)))
 
-pub spared : (w : World) (b : ℕ) → IsSound w → 0 < times_loose w b → IsUnreached w b
-spared w b s h =
-    let P : ℕ → Type 0 = λ c. times b (reach_of w.reach c) ≡ 0 in
+-- what holds of every kept commit holds of every live snapshot
+pub live_kept : (P : ℕ → Type 0) (w : World) → IsSound w → ((c : ℕ) → w.base ≤ c → c ≤ latest_of w → P c) → All P (live w)
+live_kept P w s kept =
     let own = s.floors.nodes in
     let made = s.form.base_made in
     let nodes : All (λ (n : WorldNode). n.excluded ≡ false → P n.position) w.nodes =
@@ -194,8 +194,8 @@ spared w b s h =
     let a = f.base e in
     let m = f.made in
     let z = low_le i (node_at w i).position w.runs in
-    kept_apart w b (node_at w i).position s h (omega arith) (omega arith)) in
-    All-cons P (latest_of w) _ (kept_apart w b (latest_of w) s h (omega arith) (omega arith))
+    kept (node_at w i).position (omega arith) (omega arith)) in
+    All-cons P (latest_of w) _ (kept (latest_of w) (omega arith) (omega arith))
     (All-append P (map (λ (n : WorldNode). n.position) (filter (λ (n : WorldNode). not n.excluded) w.nodes)) (map (λ (r : WorldRun). r.snapshot) w.runs)
     (All-map P (λ (n : WorldNode). n.position) (filter (λ (n : WorldNode). not n.excluded) w.nodes)
     (λ k d l.
@@ -210,7 +210,10 @@ spared w b s h =
     let m = f.made in
     let seen = fits.seen in
     let low = runs_low w k d l in
-    kept_apart w b r.snapshot s h (omega arith) (omega arith))))
+    kept r.snapshot (omega arith) (omega arith))))
+
+pub spared : (w : World) (b : ℕ) → IsSound w → 0 < times_loose w b → IsUnreached w b
+spared w b s h = live_kept (λ c. times b (reach_of w.reach c) ≡ 0) w s (λ c low high. kept_apart w b c s h low high)
 
 -- reports still fit where no node is lost and the next number doesn't fall
 pub reports_refit : (w v : World) (ps : List Report) → length v.nodes ≡ length w.nodes → w.next ≤ v.next → All (ReportFits w) ps → All (ReportFits v) ps

@@ -13,12 +13,17 @@ use Rattle.iq_world.specs.Steps.{possible, after}
 abbrev pub IsUnreached : World → ℕ → Type 0
 IsUnreached w b = All (λ c. times b (reach_of w.reach c) ≡ 0) (live w)
 
+-- the commit is kept: it is none before the base and none past the latest
+abbrev pub IsKept : World → ℕ → Type 0
+IsKept w c = (w.base ≤ c) × (c ≤ latest_of w)
+
 -- from one world to the next only blocks are taken, that is free before and not after, and freed, that is the other way round,
--- which no live snapshot of the next world reaches; and none that is free there is reached by one
+-- which no live snapshot of the next world reaches; and none that is free there is reached by one. All live snapshots are kept there
 pub record Spares (old new : World) : Type 0 where
   pub takes : (b : ℕ) → 0 < times_free old b → times_free new b ≡ 0 → IsUnreached new b
   pub frees : (b : ℕ) → times_free old b ≡ 0 → 0 < times_free new b → IsUnreached new b
   pub free : (b : ℕ) → 0 < times_free new b → IsUnreached new b
+  pub kept : All (IsKept new) (live new)
 
 -- from one world to the next exactly the blocks go to the free list that were dropped at the commits after the old base and up
 -- to the horizon, which is the new base where it is past the old one

@@ -22,7 +22,7 @@ mod worlds;
 pub use fold::{after, world_law};
 pub use laws::{
     a_step_keeps_a_world_sound, a_step_spares_what_is_live, all_steps_keep_a_world_sound,
-    the_places_fill_the_store,
+    an_opening_world_is_sound, the_places_fill_the_store,
 };
 pub use openings::opening;
 pub use worlds::{

@@ -1,10 +1,15 @@
+ghost use Rattle.std.specs.Prelude.{[], ◌∷◌};
+ghost use Rattle.iq_world.specs.Opening.{CanOpen};
+
 use super::*;
 use crate::worlds::WorldStep::*;
 use iq_base::{Listed, NoMemory};
-use std::alloc::Global;
+use std::alloc::{AllocGlobal, Global};
+use std::process::Abort;
 use std::test::Fail;
 
-/// What a row compares: the free blocks, the blocks of each kept commit, where each node is, and the numbers.
+/// All that a row compares of a world: its free blocks, the blocks of each kept commit, its nodes, runs and reports, and
+/// its numbers.
 fn seen(alloc: Global, world: &World) -> Result<String, NoMemory> {
     let mut text = format!(in alloc; "free {:?}", world.free.as_slice())?;
     for reach in world.reach.as_slice() {
@@ -14,28 +19,59 @@ fn seen(alloc: Global, world: &World) -> Result<String, NoMemory> {
     }
     for (place, node) in world.nodes.as_slice().iter().enumerate() {
         let position = node.position;
-        write!(text, ", at {position}")?;
+        write!(text, "; at {position}")?;
         if place > 0 {
             let taken = node.taken;
             let life = node.incarnation;
-            let reserved = node.reserved.len();
+            let reserved = node.reserved.as_slice();
             let excluded = if node.excluded { " excluded" } else { "" };
             write!(
                 text,
-                " taken {taken} life {life} reserved {reserved}{excluded}"
+                " taken {taken} life {life} reserved {reserved:?}{excluded}"
             )?;
         }
     }
-    let runs = world.runs.len();
-    let bag = world.bag.len();
+    for run in world.runs.as_slice() {
+        let session = run.session;
+        let node = run.node;
+        let snapshot = run.snapshot;
+        let private = run.private.as_slice();
+        write!(text, "; run {session} on {node} at {snapshot} {private:?}")?;
+    }
+    for report in world.bag.as_slice() {
+        let number = report.number;
+        let node = report.node;
+        let floor = report.floor;
+        write!(text, "; report {number} of {node} floor {floor}")?;
+    }
+    let next = world.next;
     let base = world.base;
-    write!(text, ", runs {runs} bag {bag} base {base}")?;
+    write!(text, "; next {next} base {base}")?;
     Ok(text)
 }
 
 /// Blocks of a new commit.
 fn blocks(alloc: Global, numbers: &[u32]) -> Result<Blocks, NoMemory> {
     Ok(Listed::from_vec(Vec::from_slice(alloc, numbers)?))
+}
+
+/// Compares the world at the opening, and after each step, with a line. The store has two nodes, and its tables reach block 4.
+fn goes_through(
+    rt: &(impl Abort + AllocGlobal),
+    count: u32,
+    steps: &[WorldStep],
+    lines: &[&str],
+) -> Result<(), Fail>
+    requires { CanOpen count 2 (4 ∷ []) }
+{
+    let alloc = rt.alloc();
+    for (n, line) in lines.iter().enumerate() {
+        let (done, _left) = steps.split_at(n.min(steps.len()));
+        let first = opening(alloc, count, 2, &[4])?;
+        let world = world_law(alloc, first, done)?;
+        assert_eq!(rt; seen(alloc, &world)?.as_str(), *line, "after {n} steps");
+    }
+    Ok(())
 }
 
 #[test]
@@ -74,29 +110,22 @@ fn a_dropped_block_is_free_once_every_report_past_its_drop_is_taken(
         Restart { node: 1 },
     ]?;
     let lines = [
-        "free [5, 6, 7, 8, 9, 10, 11, 12, 13], 0: [4], at 0, at 0 taken 0 life 1 reserved 0, runs 1 bag 0 base 0",
-        "free [5, 6, 7, 8, 9, 10, 11, 12, 13], 0: [4], at 0, at 0 taken 0 life 1 reserved 0, runs 2 bag 0 base 0",
-        "free [6, 7, 8, 9, 10, 11, 12, 13], 0: [4], at 0, at 0 taken 0 life 1 reserved 0, runs 2 bag 0 base 0",
-        "free [7, 8, 9, 10, 11, 12, 13], 0: [4], at 0, at 0 taken 0 life 1 reserved 0, runs 2 bag 0 base 0",
-        "free [6, 7, 8, 9, 10, 11, 12, 13], 0: [4], 1: [5], at 1, at 0 taken 0 life 1 reserved 0, runs 1 bag 0 base 0",
-        "free [6, 7, 8, 9, 10, 11, 12, 13], 0: [4], 1: [5], at 1, at 0 taken 0 life 1 reserved 0, runs 1 bag 0 base 0",
-        "free [6, 7, 8, 9, 10, 11, 12, 13], 0: [4], 1: [5], at 1, at 0 taken 0 life 1 reserved 0, runs 1 bag 1 base 0",
-        "free [6, 7, 8, 9, 10, 11, 12, 13], 0: [4], 1: [5], at 1, at 0 taken 0 life 1 reserved 0, runs 0 bag 1 base 0",
-        "free [6, 7, 8, 9, 10, 11, 12, 13], 0: [4], 1: [5], at 1, at 1 taken 0 life 1 reserved 0, runs 0 bag 1 base 0",
-        "free [6, 7, 8, 9, 10, 11, 12, 13], 0: [4], 1: [5], at 1, at 1 taken 0 life 1 reserved 0, runs 0 bag 2 base 0",
-        "free [4, 6, 7, 8, 9, 10, 11, 12, 13], 1: [5], at 1, at 1 taken 1 life 1 reserved 0, runs 0 bag 2 base 1",
-        "free [4, 6, 7, 8, 9, 10, 11, 12, 13], 1: [5], at 1, at 1 taken 1 life 1 reserved 0, runs 0 bag 2 base 1",
-        "free [4, 6, 7, 8, 9, 10, 11, 12, 13], 1: [5], at 1, at 1 taken 1 life 2 reserved 0, runs 0 bag 2 base 1",
+        "free [5, 6, 7, 8, 9, 10, 11, 12, 13], 0: [4]; at 0; at 0 taken 0 life 1 reserved []; next 1 base 0",
+        "free [5, 6, 7, 8, 9, 10, 11, 12, 13], 0: [4]; at 0; at 0 taken 0 life 1 reserved []; run 0 on 1 at 0 []; next 1 base 0",
+        "free [5, 6, 7, 8, 9, 10, 11, 12, 13], 0: [4]; at 0; at 0 taken 0 life 1 reserved []; run 0 on 1 at 0 []; run 1 on 0 at 0 []; next 1 base 0",
+        "free [6, 7, 8, 9, 10, 11, 12, 13], 0: [4]; at 0; at 0 taken 0 life 1 reserved []; run 0 on 1 at 0 []; run 1 on 0 at 0 [5]; next 1 base 0",
+        "free [7, 8, 9, 10, 11, 12, 13], 0: [4]; at 0; at 0 taken 0 life 1 reserved []; run 0 on 1 at 0 []; run 1 on 0 at 0 [5, 6]; next 1 base 0",
+        "free [6, 7, 8, 9, 10, 11, 12, 13], 0: [4], 1: [5]; at 1; at 0 taken 0 life 1 reserved []; run 0 on 1 at 0 []; next 1 base 0",
+        "free [6, 7, 8, 9, 10, 11, 12, 13], 0: [4], 1: [5]; at 1; at 0 taken 0 life 1 reserved []; run 0 on 1 at 0 []; next 1 base 0",
+        "free [6, 7, 8, 9, 10, 11, 12, 13], 0: [4], 1: [5]; at 1; at 0 taken 0 life 1 reserved []; run 0 on 1 at 0 []; report 1 of 1 floor 0; next 2 base 0",
+        "free [6, 7, 8, 9, 10, 11, 12, 13], 0: [4], 1: [5]; at 1; at 0 taken 0 life 1 reserved []; report 1 of 1 floor 0; next 2 base 0",
+        "free [6, 7, 8, 9, 10, 11, 12, 13], 0: [4], 1: [5]; at 1; at 1 taken 0 life 1 reserved []; report 1 of 1 floor 0; next 2 base 0",
+        "free [6, 7, 8, 9, 10, 11, 12, 13], 0: [4], 1: [5]; at 1; at 1 taken 0 life 1 reserved []; report 1 of 1 floor 0; report 2 of 1 floor 1; next 3 base 0",
+        "free [4, 6, 7, 8, 9, 10, 11, 12, 13], 1: [5]; at 1; at 1 taken 1 life 1 reserved []; report 1 of 1 floor 0; report 2 of 1 floor 1; next 3 base 1",
+        "free [4, 6, 7, 8, 9, 10, 11, 12, 13], 1: [5]; at 1; at 1 taken 1 life 1 reserved []; report 1 of 1 floor 0; report 2 of 1 floor 1; next 3 base 1",
+        "free [4, 6, 7, 8, 9, 10, 11, 12, 13], 1: [5]; at 1; at 1 taken 1 life 2 reserved []; report 1 of 1 floor 0; report 2 of 1 floor 1; next 3 base 1",
     ];
-    let mut world = opening(alloc, 14, 2, &[4])?;
-    for (step, line) in steps.iter().zip(lines) {
-        world = after(alloc, world, step)?;
-        assert_eq!(rt; seen(alloc, &world)?.as_str(), line, "after {step:?}");
-    }
-    assert_eq!(rt; world.next, 3);
-    let last = world_law(alloc, opening(alloc, 14, 2, &[4])?, steps.as_slice())?;
-    assert_eq!(rt; seen(alloc, &last)?.as_str(), seen(alloc, &world)?.as_str());
-    Ok(())
+    goes_through(&rt, 14, steps.as_slice(), &lines)
 }
 
 #[test]
@@ -114,6 +143,7 @@ fn an_excluded_node_holds_nothing_back_and_is_included_at_the_latest_commit(
             session: 0,
             block: 5
         },
+        Send { node: 1 },
         Exclude { node: 1 },
         Begin {
             session: 0,
@@ -133,6 +163,8 @@ fn an_excluded_node_holds_nothing_back_and_is_included_at_the_latest_commit(
         },
         Own,
         Send { node: 1 },
+        Restart { node: 1 },
+        TakeReport { number: 1 },
         Include { node: 1 },
         Begin {
             session: 0,
@@ -140,25 +172,24 @@ fn an_excluded_node_holds_nothing_back_and_is_included_at_the_latest_commit(
         },
     ]?;
     let lines = [
-        "free [5, 6, 7], 0: [4], at 0, at 0 taken 0 life 1 reserved 0, runs 1 bag 0 base 0",
-        "free [], 0: [4], at 0, at 0 taken 0 life 1 reserved 3, runs 1 bag 0 base 0",
-        "free [], 0: [4], at 0, at 0 taken 0 life 1 reserved 2, runs 1 bag 0 base 0",
-        "free [5, 6, 7], 0: [4], at 0, at 0 taken 0 life 2 reserved 0 excluded, runs 0 bag 0 base 0",
-        "free [5, 6, 7], 0: [4], at 0, at 0 taken 0 life 2 reserved 0 excluded, runs 0 bag 0 base 0",
-        "free [5, 6, 7], 0: [4], at 0, at 0 taken 0 life 2 reserved 0 excluded, runs 1 bag 0 base 0",
-        "free [6, 7], 0: [4], at 0, at 0 taken 0 life 2 reserved 0 excluded, runs 1 bag 0 base 0",
-        "free [6, 7], 0: [4], 1: [5], at 1, at 0 taken 0 life 2 reserved 0 excluded, runs 0 bag 0 base 0",
-        "free [4, 6, 7], 1: [5], at 1, at 0 taken 0 life 2 reserved 0 excluded, runs 0 bag 0 base 1",
-        "free [4, 6, 7], 1: [5], at 1, at 0 taken 0 life 2 reserved 0 excluded, runs 0 bag 0 base 1",
-        "free [4, 6, 7], 1: [5], at 1, at 1 taken 1 life 2 reserved 0, runs 0 bag 0 base 1",
-        "free [4, 6, 7], 1: [5], at 1, at 1 taken 1 life 2 reserved 0, runs 1 bag 0 base 1",
+        "free [5, 6, 7], 0: [4]; at 0; at 0 taken 0 life 1 reserved []; next 1 base 0",
+        "free [5, 6, 7], 0: [4]; at 0; at 0 taken 0 life 1 reserved []; run 0 on 1 at 0 []; next 1 base 0",
+        "free [], 0: [4]; at 0; at 0 taken 0 life 1 reserved [5, 6, 7]; run 0 on 1 at 0 []; next 1 base 0",
+        "free [], 0: [4]; at 0; at 0 taken 0 life 1 reserved [6, 7]; run 0 on 1 at 0 [5]; next 1 base 0",
+        "free [], 0: [4]; at 0; at 0 taken 0 life 1 reserved [6, 7]; run 0 on 1 at 0 [5]; report 1 of 1 floor 0; next 2 base 0",
+        "free [5, 6, 7], 0: [4]; at 0; at 0 taken 0 life 2 reserved [] excluded; report 1 of 1 floor 0; next 2 base 0",
+        "free [5, 6, 7], 0: [4]; at 0; at 0 taken 0 life 2 reserved [] excluded; report 1 of 1 floor 0; next 2 base 0",
+        "free [5, 6, 7], 0: [4]; at 0; at 0 taken 0 life 2 reserved [] excluded; run 1 on 0 at 0 []; report 1 of 1 floor 0; next 2 base 0",
+        "free [6, 7], 0: [4]; at 0; at 0 taken 0 life 2 reserved [] excluded; run 1 on 0 at 0 [5]; report 1 of 1 floor 0; next 2 base 0",
+        "free [6, 7], 0: [4], 1: [5]; at 1; at 0 taken 0 life 2 reserved [] excluded; report 1 of 1 floor 0; next 2 base 0",
+        "free [4, 6, 7], 1: [5]; at 1; at 0 taken 0 life 2 reserved [] excluded; report 1 of 1 floor 0; next 2 base 1",
+        "free [4, 6, 7], 1: [5]; at 1; at 0 taken 0 life 2 reserved [] excluded; report 1 of 1 floor 0; next 2 base 1",
+        "free [4, 6, 7], 1: [5]; at 1; at 0 taken 0 life 2 reserved [] excluded; report 1 of 1 floor 0; next 2 base 1",
+        "free [4, 6, 7], 1: [5]; at 1; at 0 taken 0 life 2 reserved [] excluded; report 1 of 1 floor 0; next 2 base 1",
+        "free [4, 6, 7], 1: [5]; at 1; at 1 taken 1 life 2 reserved []; report 1 of 1 floor 0; next 2 base 1",
+        "free [4, 6, 7], 1: [5]; at 1; at 1 taken 1 life 2 reserved []; run 0 on 1 at 1 []; report 1 of 1 floor 0; next 2 base 1",
     ];
-    let mut world = opening(alloc, 8, 2, &[4])?;
-    for (step, line) in steps.iter().zip(lines) {
-        world = after(alloc, world, step)?;
-        assert_eq!(rt; seen(alloc, &world)?.as_str(), line, "after {step:?}");
-    }
-    Ok(())
+    goes_through(&rt, 8, steps.as_slice(), &lines)
 }
 
 #[test]
