@@ -1,19 +1,18 @@
 -- A commit keeps a world sound.
-use Rattle.std.proofs.Common.{◌≡◌, ℕ, zero, suc, ◌+◌, ◌-◌, ◌==◌, ◌<◌, ◌≤◌, ◌⊎◌, Bool, true, false, cond, not, ◌&&◌, ◌||◌, nat_lt, List, [], ◌∷◌, ◌++◌, length, map, get_or, set, refl, sym, ap, ◌∙◌, subst, ⊎_elim, inl, inr, arith}
-use Rattle.std.specs.List.{All, count_by, filter, flat_map, list_all, range_with_len, remove}
+use Rattle.std.proofs.Common.{◌≡◌, ℕ, suc, ◌+◌, ◌-◌, ◌==◌, ◌<◌, ◌≤◌, ◌⊎◌, Bool, true, false, ◌||◌, nat_lt, List, [], ◌∷◌, ◌++◌, length, refl, sym, ap, ◌∙◌, subst, ⊎_elim, inl, inr, arith}
+use Rattle.std.specs.List.{list_all, range_with_len}
 use Rattle.std.proofs.lemmas.List.{length-set, map_push}
-use Rattle.std.proofs.lemmas.List.Elements.{All-get_or}
-use Rattle.std.proofs.lemmas.Bool.{eqb-true, ltb-true, false≢true}
+use Rattle.std.proofs.lemmas.Bool.{eqb-true, false≢true}
 use Rattle.std.proofs.lemmas.Bool.Decides.{eqb_tells}
 use Rattle.iq_world.specs.declared.worlds.World.{World}
 use Rattle.iq_world.specs.declared.worlds.WorldNode.{WorldNode}
 use Rattle.iq_world.specs.declared.worlds.WorldRun.{WorldRun}
 use Rattle.iq_world.specs.declared.worlds.Reach.{Reach}
 use Rattle.iq_world.specs.declared.worlds.WorldStep.TheVariants.{Commit}
-use Rattle.iq_world.specs.World.{times, holds, without, node_at, no_node, latest_of, run_place, is_running, run_of, no_run}
+use Rattle.iq_world.specs.World.{times, holds, without, node_at, latest_of, run_place, run_of, no_run}
 use Rattle.iq_world.specs.Floors.{floor_of}
-use Rattle.iq_world.specs.Space.{roots, reach_of, dropped, dropped_after, waiting, times_free, times_loose, times_bound, all_private, places}
-use Rattle.iq_world.specs.Steps.{possible, with_node, moved, sent_home, without_run, ended_with, committed, are_distinct, are_from}
+use Rattle.iq_world.specs.Space.{roots, reach_of, dropped, dropped_after, waiting, times_free, times_loose, times_bound}
+use Rattle.iq_world.specs.Steps.{possible, moved, without_run, ended_with, committed, are_distinct, are_from}
 use Rattle.iq_world.specs.Sound.{RunFits, IsSound}
 use Rattle.iq_world.proofs.Times.{as_one_le, held_times, unheld_times, times-append, times-without_held, times-without_unheld}
 use Rattle.iq_world.proofs.Kept.{reach_of-other, reach_of-last, dropped_after-agree, numbers-more}
@@ -21,8 +20,8 @@ use Rattle.iq_world.proofs.Drops.{dropped_after-more}
 use Rattle.iq_world.proofs.Possible.{both}
 use Rattle.iq_world.proofs.Counts.{node_here, node_each, home_each, home_length, free-sent_home, free-with_node, private-without_run}
 use Rattle.iq_world.proofs.Runs.{All-remove, count-remove}
-use Rattle.iq_world.proofs.Rising.{runs_low, floors_rise, bag_low, NodeRises, rises_still, rises_reserved, runs_refit, reports_refit, IsZero, zero_of, versions_hold, Good}
-use Rattle.iq_world.proofs.Stepping.{Runs, runs_at}
+use Rattle.iq_world.proofs.Rising.{runs_low, floors_rise, bag_low, NodeRises, rises_still, rises_reserved, runs_refit, reports_refit, versions_hold, Good}
+use Rattle.iq_world.proofs.Stepping.{runs_at}
 
 -- a test that every number of a list passes, one that the list holds passes
 pub all_held : (p : ℕ → Bool) (xs : List ℕ) (b : ℕ) → list_all p xs ≡ true → holds xs b ≡ true → p b ≡ true

@@ -1,18 +1,17 @@
 -- How the counts of a block change with the parts of a world.
-use Rattle.std.proofs.Common.{◌≡◌, ℕ, zero, suc, ◌+◌, ◌-◌, ◌==◌, ◌<◌, ◌≤◌, ◌⊎◌, Bool, true, false, cond, not, nat_lt, ltb, List, [], ◌∷◌, ◌++◌, length, get_or, set, take, drop, refl, sym, ap, ◌∙◌, subst, ⊎_elim, eqb, arith}
-use Rattle.std.specs.List.{filter, flat_map, sum_by, remove, position_or_len, count_by}
-use Rattle.std.proofs.lemmas.List.Sums.{sum_by-set, sum_by-remove, passes_at_first}
+use Rattle.std.proofs.Common.{◌≡◌, ℕ, ◌+◌, ◌==◌, ◌<◌, Bool, true, false, cond, not, List, [], ◌++◌, length, get_or, set, refl, sym, ap, subst, ⊎_elim, arith}
+use Rattle.std.specs.List.{filter, flat_map}
+use Rattle.std.proofs.lemmas.List.Sums.{sum_by-set, sum_by-remove}
 use Rattle.std.proofs.lemmas.List.Filters.{sum_by-filter_both}
-use Rattle.std.proofs.lemmas.List.{get_or-set_same, get_or-set_other, length-set, get_or_past}
-use Rattle.std.proofs.lemmas.Bool.{eqb-true, eqb-false, false≢true, cases_eq, ltb-true}
-use Rattle.std.proofs.lemmas.Bool.Decides.{eqb_tells}
+use Rattle.std.proofs.lemmas.List.{get_or-set_same, get_or-set_other, length-set}
+use Rattle.std.proofs.lemmas.Bool.{eqb-false, cases_eq}
 use Rattle.iq_world.specs.declared.worlds.World.{World}
 use Rattle.iq_world.specs.declared.worlds.WorldNode.{WorldNode}
 use Rattle.iq_world.specs.declared.worlds.WorldRun.{WorldRun}
-use Rattle.iq_world.specs.World.{times, holds, without, put_all, node_at, no_node, latest_of, run_place, is_running, run_of, no_run}
-use Rattle.iq_world.specs.Space.{all_reserved, all_private, times_free, times_loose, reach_of, dropped_after, waiting}
-use Rattle.iq_world.specs.Steps.{with_node, moved, with_reserved, freed, home, sent_home, less, left_home, with_private, without_run, runs_on, cleared}
-use Rattle.iq_world.proofs.Times.{one, times-cons, times-append, times-flat_map, times-put_all, times-less}
+use Rattle.iq_world.specs.World.{times, holds, put_all, node_at, no_node, run_place, run_of, no_run}
+use Rattle.iq_world.specs.Space.{all_reserved, all_private, times_free, times_loose}
+use Rattle.iq_world.specs.Steps.{with_node, freed, home, sent_home, less, left_home, with_private, without_run, runs_on, cleared}
+use Rattle.iq_world.proofs.Times.{one, times-append, times-flat_map, times-put_all, times-less}
 
 -- the node at a place after one was changed
 pub node_here : (w : World) (n : ℕ) (v : WorldNode) → n < length w.nodes → node_at (with_node n v w) n ≡ v

@@ -1,7 +1,7 @@
 -- Laws of what commits drop.
-use Rattle.std.proofs.Common.{◌≡◌, ℕ, zero, suc, ◌+◌, ◌-◌, List, [], ◌∷◌, ◌++◌, refl, sym, ap, ◌∙◌, append_assoc, append-nil, arith}
+use Rattle.std.proofs.Common.{◌≡◌, ℕ, zero, suc, ◌+◌, List, ◌++◌, sym, ap, ◌∙◌, append_assoc, append-nil, arith}
 use Rattle.iq_world.specs.declared.worlds.Reach.{Reach}
-use Rattle.iq_world.specs.Space.{reach_of, dropped, dropped_after}
+use Rattle.iq_world.specs.Space.{dropped, dropped_after}
 
 -- what is dropped at m and then n commits is what is dropped at all of them
 pub dropped_after-add : (rs : List Reach) (c m n : ℕ) → dropped_after rs c (m + n) ≡ dropped_after rs c m ++ dropped_after rs (c + m) n

@@ -1,17 +1,14 @@
 -- Every step keeps a world sound and obeys its law, and so does every list of steps.
-use Rattle.std.proofs.Common.{◌≡◌, ℕ, zero, suc, ◌+◌, ◌-◌, ◌==◌, ◌<◌, ◌≤◌, Bool, true, false, cond, nat_lt, max, List, [], ◌∷◌, ◌++◌, length, get_or, set, refl, sym, ap, ◌∙◌, subst, eqb, arith}
-use Rattle.std.specs.List.{flat_map, fold, remove, position_or_len}
-use Rattle.std.proofs.lemmas.List.Sums.{sum_by-remove}
-use Rattle.std.proofs.lemmas.List.{length-append}
+use Rattle.std.proofs.Common.{◌≡◌, ℕ, zero, suc, Bool, true, false, cond, max, List, [], ◌∷◌, ◌++◌, get_or, set, refl, sym, ap, ◌∙◌, subst, arith}
+use Rattle.std.specs.List.{flat_map}
 use Rattle.iq_world.specs.declared.worlds.World.{World}
 use Rattle.iq_world.specs.declared.worlds.WorldNode.{WorldNode}
 use Rattle.iq_world.specs.declared.worlds.WorldStep.{WorldStep}
 use Rattle.iq_world.specs.declared.worlds.WorldStep.TheVariants.{Begin, Reserve, Take, Back, Commit, End, Sync, Apply, Send, Lose, TakeReport, Own, Restart, Exclude, Include}
-use Rattle.iq_world.specs.World.{times, holds, node_at, no_node, latest_of, report_of}
-use Rattle.iq_world.specs.Space.{all_reserved, times_free, times_loose}
-use Rattle.iq_world.specs.Steps.{possible, change, after, after_all, with_taken, reclaimed, report_taken}
+use Rattle.iq_world.specs.World.{node_at, no_node, report_of}
+use Rattle.iq_world.specs.Steps.{possible, change, after, after_all, with_taken, report_taken}
 use Rattle.iq_world.specs.Sound.{IsSound}
-use Rattle.iq_world.specs.Laws.{IsKept, Spares, Reclaims, ReclaimsAt, StepLaw, EachStep}
+use Rattle.iq_world.specs.Laws.{IsKept, Reclaims, ReclaimsAt, StepLaw, EachStep}
 use Rattle.iq_world.proofs.Stepping.{good_begin, good_reserve, good_take, good_back, good_end}
 use Rattle.iq_world.proofs.Moving.{good_sync, good_apply, good_send, good_lose, good_restart, good_exclude, good_include}
 use Rattle.iq_world.proofs.Reclaiming.{good_own, good_report_taken, reclaims}

@@ -1,13 +1,12 @@
 -- What commits reach where one more is kept, and where the first ones aren't.
-use Rattle.std.proofs.Common.{◌≡◌, ℕ, suc, zero, ◌+◌, ◌-◌, ◌==◌, ◌<◌, ◌≤◌, ◌⊎◌, Bool, true, false, cond, nat_le, leb, eqb, List, [], ◌∷◌, ◌++◌, length, map, refl, sym, ap, ◌∙◌, subst, inl, inr, ⊎_elim, arith}
-use Rattle.std.specs.List.{filter, All, range_with_len}
-use Rattle.std.proofs.lemmas.Bool.{ne_eqb, eq-eqb, eqb-true, cases_lt, false≢true}
+use Rattle.std.proofs.Common.{◌≡◌, ℕ, suc, zero, ◌+◌, ◌-◌, ◌==◌, ◌<◌, ◌≤◌, Bool, true, false, cond, nat_le, List, [], ◌∷◌, ◌++◌, map, refl, sym, ap, ◌∙◌, ⊎_elim, arith}
+use Rattle.std.specs.List.{filter, range_with_len}
+use Rattle.std.proofs.lemmas.Bool.{ne_eqb, eq-eqb, cases_lt}
 use Rattle.std.proofs.lemmas.Bool.{le-leb, lt-leb}
 use Rattle.iq_world.specs.declared.worlds.Reach.{Reach}
-use Rattle.iq_world.specs.World.{times, holds, without}
+use Rattle.iq_world.specs.World.{times, holds}
 use Rattle.iq_world.specs.Space.{reach_of, dropped, dropped_after}
-use Rattle.iq_world.proofs.Times.{times-append, held_times, unheld_times, times-without_held, times-without_unheld}
-use Rattle.iq_world.proofs.Drops.{dropped_after-add}
+use Rattle.iq_world.proofs.Times.{times-append, held_times, times-without_unheld}
 
 -- a commit that isn't the last reaches what it reached without that
 pub reach_of-other : (rs : List Reach) (r : Reach) (c : ℕ) → (r.commit ≡ c → ⊥) → reach_of (rs ++ r ∷ []) c ≡ reach_of rs c

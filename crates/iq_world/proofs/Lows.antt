@@ -1,14 +1,11 @@
 -- A floor is the greatest number that is at most the position and the snapshots; the horizon likewise.
-use Rattle.std.proofs.Common.{◌≡◌, ℕ, suc, zero, ◌+◌, ◌-◌, ◌==◌, ◌<◌, ◌≤◌, Bool, true, false, cond, min, List, [], ◌∷◌, length, drop, get_or, refl, sym, ap, ◌∙◌, subst, eqb, arith}
+use Rattle.std.proofs.Common.{◌≡◌, ℕ, ◌==◌, ◌≤◌, Bool, true, false, cond, min, List, [], ◌∷◌, refl, sym, subst, arith}
 use Rattle.std.specs.List.{fold, All}
-use Rattle.std.proofs.lemmas.List.{get_or-drop}
-use Rattle.std.proofs.lemmas.List.Elements.{All-nil, All-cons, All-head, All-tail, All-get_or}
+use Rattle.std.proofs.lemmas.List.Elements.{All-nil, All-cons, All-head, All-tail}
 use Rattle.std.proofs.lemmas.Bool.{eq-eqb, eqb-true}
-use Rattle.iq_world.specs.declared.worlds.World.{World}
 use Rattle.iq_world.specs.declared.worlds.WorldNode.{WorldNode}
 use Rattle.iq_world.specs.declared.worlds.WorldRun.{WorldRun}
-use Rattle.iq_world.specs.World.{node_at, no_node}
-use Rattle.iq_world.specs.Floors.{lower, floor_of, lower_taken, horizon_of}
+use Rattle.iq_world.specs.Floors.{lower, lower_taken}
 
 -- one run's step never rises, is at most the run's snapshot where the run counts, and keeps what both are above
 lower_le : (n p : ℕ) (r : WorldRun) → lower n p r ≤ p

@@ -1,26 +1,26 @@
 -- The steps that move, restart, exclude and include nodes, and those of reports, keep a world sound.
-use Rattle.std.proofs.Common.{◌≡◌, ℕ, zero, suc, ◌+◌, ◌-◌, ◌==◌, ◌<◌, ◌≤◌, ◌⊎◌, Bool, true, false, cond, not, ◌&&◌, nat_lt, max, List, [], ◌∷◌, ◌++◌, length, get_or, set, refl, sym, ap, ◌∙◌, subst, ⊎_elim, arith}
+use Rattle.std.proofs.Common.{◌≡◌, ℕ, ◌+◌, ◌==◌, ◌<◌, ◌≤◌, true, false, not, max, [], length, get_or, refl, sym, ap, ◌∙◌, subst, ⊎_elim, arith}
 use Rattle.std.specs.List.{All, count_by, filter, fold}
 use Rattle.std.proofs.lemmas.List.{length-set}
 use Rattle.std.proofs.lemmas.List.Elements.{All-push, All-filter, All-weaker, All-get_or, filter_passes}
-use Rattle.std.proofs.lemmas.Bool.{eqb-true, eqb-false, ltb-true, ne_eqb, false≢true, cases_eq}
+use Rattle.std.proofs.lemmas.Bool.{eqb-false, ltb-true, ne_eqb, false≢true, cases_eq}
 use Rattle.std.proofs.lemmas.Bool.Decides.{eqb_tells}
 use Rattle.iq_world.specs.declared.worlds.World.{World}
 use Rattle.iq_world.specs.declared.worlds.WorldNode.{WorldNode}
 use Rattle.iq_world.specs.declared.worlds.WorldRun.{WorldRun}
 use Rattle.iq_world.specs.declared.worlds.Report.{Report}
 use Rattle.iq_world.specs.declared.worlds.WorldStep.TheVariants.{Sync, Apply, Send, Lose, TakeReport, Restart, Exclude, Include}
-use Rattle.iq_world.specs.World.{times, node_at, no_node, latest_of, report_place, report_of, no_report}
+use Rattle.iq_world.specs.World.{node_at, latest_of, report_place, report_of, no_report}
 use Rattle.iq_world.specs.Floors.{floor_of, lower}
-use Rattle.iq_world.specs.Space.{all_private, all_reserved, times_free, times_loose}
+use Rattle.iq_world.specs.Space.{times_free}
 use Rattle.iq_world.specs.Steps.{possible, with_node, moved, with_taken, runs_on, cleared, synced, applied, report_sent, report_lost, node_restarted, node_excluded, node_included}
-use Rattle.iq_world.specs.Sound.{ReportFits, RunFits, NodeFits, Floors, IsSound}
+use Rattle.iq_world.specs.Sound.{ReportFits, RunFits, IsSound}
 use Rattle.iq_world.proofs.Times.{as_one}
-use Rattle.iq_world.proofs.Lows.{low_le, low_above}
+use Rattle.iq_world.proofs.Lows.{low_above}
 use Rattle.iq_world.proofs.Possible.{both, not_true, included_is, secondary_is}
 use Rattle.iq_world.proofs.Counts.{node_here, node_there, node_each, free-with_node, loose-cleared}
 use Rattle.iq_world.proofs.Runs.{All-remove, count-push, count-remove, count-filter, count-none}
-use Rattle.iq_world.proofs.Rising.{runs_low, floor_rise, floors_rise, bag_low, NodeRises, rises_still, runs_refit, reports_refit, IsZero, zero_of, Beside, good_beside, Moves, good_moves, Good}
+use Rattle.iq_world.proofs.Rising.{runs_low, floor_rise, floors_rise, bag_low, NodeRises, rises_still, runs_refit, reports_refit, IsZero, zero_of, good_beside, good_moves, Good}
 
 -- one node is at another position up to the latest commit, or has another taken floor up to its floor
 record Places (w : World) (n : ℕ) (x : WorldNode) : Type 0 where

@@ -1,19 +1,17 @@
 -- The world at the opening is sound.
-use Rattle.std.proofs.Common.{◌≡◌, ℕ, zero, suc, ◌+◌, ◌-◌, ◌*◌, ◌==◌, ◌<◌, ◌≤◌, ◌⊎◌, Bool, true, false, cond, not, nat_lt, List, [], ◌∷◌, ◌++◌, length, replicate, get_or, refl, sym, ap, ◌∙◌, subst, ⊎_elim, arith}
-use Rattle.std.specs.List.{All, flat_map, range_with_len, sum_by, filter}
+use Rattle.std.proofs.Common.{◌≡◌, ℕ, zero, suc, ◌+◌, ◌-◌, ◌==◌, ◌<◌, ◌≤◌, Bool, true, false, cond, not, nat_lt, List, [], ◌∷◌, ◌++◌, length, replicate, refl, sym, ap, ◌∙◌, subst, ⊎_elim, arith}
+use Rattle.std.specs.List.{All, range_with_len}
 use Rattle.std.proofs.lemmas.List.{length-replicate, get_or-replicate, append-nil}
 use Rattle.std.proofs.lemmas.List.Folds.{sum_by-replicate}
 use Rattle.std.proofs.lemmas.List.Elements.{All-nil, All-head, All-tail, filter-append}
 use Rattle.std.proofs.lemmas.Bool.{eq-eqb, ne_eqb, lt-ltb, le-ltb, eqb-true, cases_lt, cases_eq, false≢true}
 use Rattle.std.proofs.lemmas.Bool.Decides.{eqb_tells}
-use Rattle.iq_world.specs.declared.worlds.World.{World}
 use Rattle.iq_world.specs.declared.worlds.WorldNode.{WorldNode}
 use Rattle.iq_world.specs.World.{times, holds, without, node_at, no_node, latest_of}
-use Rattle.iq_world.specs.Floors.{floor_of}
-use Rattle.iq_world.specs.Space.{roots, reach_of, dropped_after, waiting, all_reserved, times_loose, times_bound, places}
+use Rattle.iq_world.specs.Space.{roots, reach_of, dropped_after, waiting, all_reserved, places}
 use Rattle.iq_world.specs.Opening.{fresh_node, opening_world, CanOpen}
-use Rattle.iq_world.specs.Sound.{RunFits, NodeFits, IsSound}
-use Rattle.iq_world.proofs.Times.{as_one, times-cons, times-flat_map, held_times, unheld_times, times-without_held, times-without_unheld}
+use Rattle.iq_world.specs.Sound.{IsSound}
+use Rattle.iq_world.proofs.Times.{as_one, times-cons, times-flat_map, unheld_times, times-without_held, times-without_unheld}
 use Rattle.iq_world.proofs.Kept.{numbers-more}
 use Rattle.iq_world.proofs.Committing.{all_held}
 use Rattle.iq_world.proofs.Rising.{versions_hold}

@@ -1,12 +1,11 @@
 -- What the tests of a possible step say.
-use Rattle.std.proofs.Common.{◌≡◌, ℕ, zero, suc, ◌+◌, ◌==◌, ◌<◌, ◌≤◌, ◌⊎◌, Bool, true, false, cond, not, ◌&&◌, nat_lt, List, [], ◌∷◌, ◌++◌, length, get_or, refl, sym, ap, ◌∙◌, subst, ⊎_elim, arith}
-use Rattle.std.specs.List.{count_by, position_or_len, All, fold}
+use Rattle.std.proofs.Common.{◌≡◌, ℕ, ◌+◌, ◌==◌, ◌<◌, ◌≤◌, Bool, true, false, cond, not, ◌&&◌, List, [], ◌∷◌, length, refl, ap, arith}
+use Rattle.std.specs.List.{count_by, position_or_len}
 use Rattle.std.proofs.lemmas.List.Sums.{sum_by-cons, passes_at_first}
-use Rattle.std.proofs.lemmas.Bool.{ltb-true, ltb-false, eqb-true, false≢true, and_parts, not-true}
+use Rattle.std.proofs.lemmas.Bool.{ltb-true, ltb-false, eqb-true, and_parts, not-true}
 use Rattle.iq_world.specs.declared.worlds.World.{World}
-use Rattle.iq_world.specs.declared.worlds.WorldNode.{WorldNode}
 use Rattle.iq_world.specs.declared.worlds.WorldRun.{WorldRun}
-use Rattle.iq_world.specs.World.{node_at, is_node, is_included, is_secondary, run_place, is_running, run_of, no_run, report_place, is_sent}
+use Rattle.iq_world.specs.World.{node_at, is_included, is_secondary, run_place, is_running, run_of, no_run}
 
 -- both parts of a test pass
 pub both : {a b : Bool} → (a && b) ≡ true → (a ≡ true) × (b ≡ true)

@@ -1,19 +1,16 @@
 -- Freeing what was dropped up to the horizon keeps a world sound, and frees exactly that.
-use Rattle.std.proofs.Common.{◌≡◌, ℕ, zero, suc, ◌+◌, ◌-◌, ◌==◌, ◌<◌, ◌≤◌, ◌⊎◌, Bool, true, false, cond, not, nat_lt, nat_le, max, List, [], ◌∷◌, ◌++◌, length, map, drop, get_or, refl, sym, ap, ◌∙◌, subst, ⊎_elim, arith}
-use Rattle.std.specs.List.{All, filter, range_with_len}
+use Rattle.std.proofs.Common.{◌≡◌, ℕ, zero, suc, ◌+◌, ◌-◌, ◌<◌, ◌≤◌, true, false, nat_le, max, ◌++◌, length, drop, get_or, refl, ap, ◌∙◌, arith}
+use Rattle.std.specs.List.{filter, range_with_len}
 use Rattle.std.proofs.lemmas.List.{get_or-drop, length-drop}
-use Rattle.std.proofs.lemmas.Bool.{cases_eq, false≢true}
 use Rattle.iq_world.specs.declared.worlds.World.{World}
 use Rattle.iq_world.specs.declared.worlds.WorldNode.{WorldNode}
-use Rattle.iq_world.specs.declared.worlds.WorldRun.{WorldRun}
-use Rattle.iq_world.specs.declared.worlds.Report.{Report}
 use Rattle.iq_world.specs.declared.worlds.Reach.{Reach}
-use Rattle.iq_world.specs.declared.worlds.WorldStep.TheVariants.{TakeReport, Own}
-use Rattle.iq_world.specs.World.{times, put_all, node_at, no_node, latest_of, report_of}
-use Rattle.iq_world.specs.Floors.{floor_of, horizon_of, lower_taken}
-use Rattle.iq_world.specs.Space.{roots, reach_of, dropped_after, waiting, times_free, times_loose, times_bound, all_reserved, all_private}
+use Rattle.iq_world.specs.declared.worlds.WorldStep.TheVariants.{TakeReport}
+use Rattle.iq_world.specs.World.{times, node_at, no_node, latest_of, report_of}
+use Rattle.iq_world.specs.Floors.{floor_of, horizon_of}
+use Rattle.iq_world.specs.Space.{roots, dropped_after, waiting, times_free, times_loose, times_bound}
 use Rattle.iq_world.specs.Steps.{possible, with_taken, reclaimed_to, reclaimed, report_taken}
-use Rattle.iq_world.specs.Sound.{ReportFits, RunFits, NodeFits, IsSound}
+use Rattle.iq_world.specs.Sound.{NodeFits, IsSound}
 use Rattle.iq_world.specs.Laws.{Reclaims}
 use Rattle.iq_world.proofs.Times.{times-append, times-put_all}
 use Rattle.iq_world.proofs.Lows.{low_le, horizon_le, horizon_below}

@@ -1,16 +1,16 @@
 -- A step that lets no floor fall keeps the floors, and one that moves blocks beside the commits keeps a world sound.
-use Rattle.std.proofs.Common.{◌≡◌, ℕ, zero, suc, ◌+◌, ◌-◌, ◌==◌, ◌<◌, ◌≤◌, ◌⊎◌, Bool, true, false, cond, not, nat_lt, List, [], ◌∷◌, ◌++◌, length, map, get_or, drop, refl, sym, ap, ◌∙◌, subst, ⊎_elim, inl, inr, arith}
+use Rattle.std.proofs.Common.{◌≡◌, ℕ, zero, suc, ◌+◌, ◌-◌, ◌==◌, ◌<◌, ◌≤◌, ◌⊎◌, true, false, cond, not, nat_lt, List, [], ◌++◌, length, map, get_or, refl, sym, ap, ◌∙◌, subst, ⊎_elim, inl, inr, arith}
 use Rattle.std.specs.List.{All, count_by, filter, range_with_len}
-use Rattle.std.proofs.lemmas.List.Elements.{All-weaker, All-nil, All-cons, All-append, All-map, All-filter, All-from_get_or, filter_passes}
+use Rattle.std.proofs.lemmas.List.Elements.{All-weaker, All-cons, All-append, All-map, All-filter, All-from_get_or, filter_passes}
 use Rattle.iq_world.specs.declared.worlds.World.{World}
 use Rattle.iq_world.specs.declared.worlds.WorldNode.{WorldNode}
 use Rattle.iq_world.specs.declared.worlds.WorldRun.{WorldRun}
 use Rattle.iq_world.specs.declared.worlds.Report.{Report}
 use Rattle.iq_world.specs.declared.worlds.Reach.{Reach}
 use Rattle.iq_world.specs.World.{times, node_at, no_node, latest_of}
-use Rattle.iq_world.specs.Floors.{floor_of, lower, live}
-use Rattle.iq_world.specs.Space.{roots, reach_of, dropped_after, waiting, times_free, times_loose, times_bound, places}
-use Rattle.iq_world.specs.Sound.{ReportFits, Form, HasOnePlace, KeepsVersions, RunFits, NodeFits, Floors, IsSound}
+use Rattle.iq_world.specs.Floors.{floor_of, live}
+use Rattle.iq_world.specs.Space.{roots, reach_of, dropped_after, times_free, times_loose, times_bound, places}
+use Rattle.iq_world.specs.Sound.{ReportFits, KeepsVersions, RunFits, NodeFits, Floors, IsSound}
 use Rattle.iq_world.specs.Laws.{IsUnreached}
 use Rattle.iq_world.proofs.Lows.{low_le, low_below, low_above}
 use Rattle.iq_world.proofs.Kept.{kept_or_dropped}

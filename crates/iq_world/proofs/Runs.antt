@@ -1,15 +1,13 @@
 -- Sessions and report numbers stay single, and what holds of runs stays.
-use Rattle.std.proofs.Common.{◌≡◌, ℕ, zero, suc, ◌+◌, ◌-◌, ◌==◌, ◌<◌, ◌≤◌, ◌⊎◌, Bool, true, false, cond, not, nat_lt, List, [], ◌∷◌, ◌++◌, length, get_or, set, take, drop, refl, sym, ap, ◌∙◌, subst, ⊎_elim, arith}
-use Rattle.std.specs.List.{All, count_by, filter, remove, sum_by}
+use Rattle.std.proofs.Common.{◌≡◌, ℕ, suc, ◌+◌, ◌==◌, ◌<◌, ◌≤◌, Bool, false, cond, not, List, [], ◌∷◌, ◌++◌, length, take, drop, refl, ap, arith}
+use Rattle.std.specs.List.{All, count_by, filter, remove}
 use Rattle.std.proofs.lemmas.List.Sums.{sum_by-cons, sum_by-set, sum_by-remove, sum_by_push}
 use Rattle.std.proofs.lemmas.List.Filters.{sum_by-filter_both}
 use Rattle.std.proofs.lemmas.List.Elements.{All-append, All-take, All-drop, All-head, All-tail}
-use Rattle.std.proofs.lemmas.Bool.{eqb-true, ne_eqb}
 use Rattle.iq_world.specs.declared.worlds.World.{World}
 use Rattle.iq_world.specs.declared.worlds.WorldRun.{WorldRun}
-use Rattle.iq_world.specs.declared.worlds.Report.{Report}
-use Rattle.iq_world.specs.World.{run_place, run_of, no_run, report_place, no_report}
-use Rattle.iq_world.specs.Steps.{with_private, without_run, runs_on}
+use Rattle.iq_world.specs.World.{run_place, run_of, no_run}
+use Rattle.iq_world.specs.Steps.{with_private}
 use Rattle.iq_world.proofs.Times.{as_one}
 
 -- what holds of every element holds without one

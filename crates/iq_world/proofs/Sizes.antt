@@ -1,15 +1,15 @@
 -- A list that holds the first numbers once each has as many.
-use Rattle.std.proofs.Common.{◌≡◌, ℕ, zero, suc, ◌+◌, ◌-◌, ◌==◌, ◌<◌, ◌≤◌, ◌⊎◌, Bool, true, false, cond, nat_lt, List, [], ◌∷◌, ◌++◌, length, take, drop, get_or, refl, sym, ap, ◌∙◌, subst, ⊎_elim, arith}
-use Rattle.std.specs.List.{flat_map, remove, position_or_len}
+use Rattle.std.proofs.Common.{◌≡◌, ℕ, zero, suc, ◌+◌, ◌==◌, ◌<◌, ◌≤◌, Bool, true, false, nat_lt, List, [], ◌∷◌, ◌++◌, length, take, drop, refl, sym, ap, ◌∙◌, ⊎_elim, arith}
+use Rattle.std.specs.List.{position_or_len}
 use Rattle.std.proofs.lemmas.List.{length-append, length-take, length-drop}
-use Rattle.std.proofs.lemmas.Bool.{eq-eqb, ne_eqb, lt-ltb, le-ltb, cases_eq, cases_lt, false≢true}
+use Rattle.std.proofs.lemmas.Bool.{eq-eqb, ne_eqb, lt-ltb, le-ltb, cases_eq, cases_lt}
 use Rattle.iq_world.specs.declared.worlds.World.{World}
 use Rattle.iq_world.specs.World.{times, holds, latest_of}
 use Rattle.iq_world.specs.Space.{roots, reach_of, waiting, all_reserved, all_private, places}
 use Rattle.iq_world.specs.Steps.{less}
 use Rattle.iq_world.specs.Sound.{IsSound}
 use Rattle.iq_world.specs.Laws.{FillsTheStore}
-use Rattle.iq_world.proofs.Times.{as_one, one, times-cons, times-append, times-less, held_place, unheld_times}
+use Rattle.iq_world.proofs.Times.{as_one, times-cons, times-append, times-less, held_place, unheld_times}
 
 -- what stands in a list is held by it
 stands_held : (b : ℕ) (xs : List ℕ) → 0 < times b xs → holds xs b ≡ true

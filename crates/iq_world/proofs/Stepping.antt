@@ -1,26 +1,24 @@
 -- The steps that move blocks among the free list, reservations and runs keep a world sound.
-use Rattle.std.proofs.Common.{◌≡◌, ℕ, zero, suc, ◌+◌, ◌-◌, ◌==◌, ◌<◌, ◌≤◌, ◌⊎◌, Bool, true, false, cond, not, ◌&&◌, nat_lt, nat_le, List, [], ◌∷◌, ◌++◌, length, get_or, set, take, drop, refl, sym, ap, ◌∙◌, subst, ⊎_elim, arith}
-use Rattle.std.specs.List.{All, count_by, filter, flat_map, remove, sum_by}
+use Rattle.std.proofs.Common.{◌≡◌, ℕ, ◌==◌, ◌<◌, ◌≤◌, true, false, cond, List, [], ◌∷◌, ◌++◌, length, get_or, set, take, drop, refl, sym, ap, ◌∙◌, subst, ⊎_elim, arith}
+use Rattle.std.specs.List.{All, count_by}
 use Rattle.std.proofs.lemmas.List.{length-set}
 use Rattle.std.proofs.lemmas.List.Sums.{sum_by_push}
-use Rattle.std.proofs.lemmas.List.Elements.{All-push, All-set, All-get_or, All-filter, filter_passes}
-use Rattle.std.proofs.lemmas.Bool.{eqb-true, leb-true, ltb-true, false≢true, ne_eqb}
+use Rattle.std.proofs.lemmas.List.Elements.{All-push, All-set, All-get_or}
 use Rattle.std.proofs.lemmas.Bool.Decides.{eqb_tells}
 use Rattle.iq_world.specs.declared.worlds.World.{World}
 use Rattle.iq_world.specs.declared.worlds.WorldNode.{WorldNode}
 use Rattle.iq_world.specs.declared.worlds.WorldRun.{WorldRun}
-use Rattle.iq_world.specs.declared.worlds.WorldStep.TheVariants.{Begin, Reserve, Take, Back, End}
-use Rattle.iq_world.specs.World.{times, holds, put_all, node_at, no_node, latest_of, run_place, is_running, run_of, no_run, is_secondary, is_included}
+use Rattle.iq_world.specs.declared.worlds.WorldStep.TheVariants.{Begin, Reserve, Take, Back}
+use Rattle.iq_world.specs.World.{times, put_all, node_at, no_node, latest_of, run_place, is_running, run_of, no_run}
 use Rattle.iq_world.specs.Floors.{floor_of}
-use Rattle.iq_world.specs.Space.{all_private, all_reserved, times_free, times_loose}
-use Rattle.iq_world.specs.Steps.{possible, with_node, with_reserved, home, sent_home, left_home, less, with_private, without_run, begun, reserving, taking, backed, ended_with}
-use Rattle.iq_world.specs.Sound.{RunFits, NodeFits, IsSound}
-use Rattle.iq_world.proofs.Times.{one, as_one, times-cons, times-append, times-flat_map, times-put_all, times-take-drop}
+use Rattle.iq_world.specs.Steps.{possible, left_home, less, with_private, without_run, begun, reserving, taking, backed, ended_with}
+use Rattle.iq_world.specs.Sound.{RunFits, IsSound}
+use Rattle.iq_world.proofs.Times.{as_one, times-cons, times-append, times-flat_map, times-put_all, times-take-drop}
 use Rattle.iq_world.proofs.Lows.{low_le}
-use Rattle.iq_world.proofs.Possible.{both, not_true, included_is, secondary_is, running_is, not_running_is, run_session, empty_is}
-use Rattle.iq_world.proofs.Counts.{node_each, node_here, reserved-with_node, private-with_private, private-without_run, free-sent_home, free-left_home, home_each, home_length}
+use Rattle.iq_world.proofs.Possible.{both, not_true, included_is, secondary_is, running_is, not_running_is, empty_is}
+use Rattle.iq_world.proofs.Counts.{node_each, reserved-with_node, private-with_private, private-without_run, free-sent_home, free-left_home, home_each, home_length}
 use Rattle.iq_world.proofs.Runs.{All-remove, count-push, count-remove, count-with_private}
-use Rattle.iq_world.proofs.Rising.{runs_low, NodeRises, rises_still, rises_reserved, runs_refit, IsZero, zero_of, Moves, good_moves, Good}
+use Rattle.iq_world.proofs.Rising.{runs_low, NodeRises, rises_still, rises_reserved, runs_refit, IsZero, zero_of, good_moves, Good}
 
 pub good_begin : (w : World) (s n : ℕ) → possible w (Begin s n) ≡ true → IsSound w → Good w (begun w s n)
 good_begin w s n can g =

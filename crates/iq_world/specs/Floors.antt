@@ -1,5 +1,5 @@
 -- How far back versions are wanted: floors, the horizon and the live snapshots.
-use Rattle.std.specs.Prelude.{ℕ, ◌==◌, Bool, not, min, if◌then◌else◌, List, [], ◌∷◌, ◌++◌, map, drop}
+use Rattle.std.specs.Prelude.{ℕ, ◌==◌, not, min, if◌then◌else◌, List, ◌∷◌, ◌++◌, map, drop}
 use Rattle.std.specs.List.{filter, fold}
 use Rattle.iq_world.specs.declared.worlds.World.{World}
 use Rattle.iq_world.specs.declared.worlds.WorldNode.{WorldNode}

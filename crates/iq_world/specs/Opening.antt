@@ -1,9 +1,9 @@
 -- The world at the opening of a store.
-use Rattle.std.specs.Prelude.{◌≡◌, ℕ, ◌-◌, ◌<◌, ◌≤◌, true, false, List, [], ◌∷◌, length, replicate}
+use Rattle.std.specs.Prelude.{◌≡◌, ℕ, ◌-◌, ◌<◌, ◌≤◌, true, false, List, [], ◌∷◌, replicate}
 use Rattle.std.specs.List.{All, range_with_len}
 use Rattle.iq_world.specs.declared.worlds.World.{World}
 use Rattle.iq_world.specs.declared.worlds.WorldNode.{WorldNode}
-use Rattle.iq_world.specs.World.{times, without}
+use Rattle.iq_world.specs.World.{without}
 use Rattle.iq_world.specs.Steps.{are_distinct}
 
 -- a node at the opening

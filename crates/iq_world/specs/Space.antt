@@ -1,5 +1,5 @@
 -- Where each block is: what commits reach, what was dropped, what waits, and the places of a block.
-use Rattle.std.specs.Prelude.{ℕ, zero, suc, ◌+◌, ◌-◌, ◌==◌, nat_lt, if◌then◌else◌, List, [], ◌∷◌, ◌++◌}
+use Rattle.std.specs.Prelude.{ℕ, zero, suc, ◌+◌, ◌-◌, ◌==◌, if◌then◌else◌, List, [], ◌∷◌, ◌++◌}
 use Rattle.std.specs.List.{flat_map}
 use Rattle.iq_world.specs.declared.worlds.World.{World}
 use Rattle.iq_world.specs.declared.worlds.WorldNode.{WorldNode}

@@ -1,10 +1,9 @@
 -- The steps of a world: where each is possible, and what it changes.
-use Rattle.std.specs.Prelude.{ℕ, ◌+◌, ◌-◌, ◌==◌, ◌^◌, Bool, true, false, ◌&&◌, ◌||◌, not, nat_lt, nat_le, max, if◌then◌else◌, List, [], ◌∷◌, ◌++◌, length, take, drop, slice_set}
+use Rattle.std.specs.Prelude.{ℕ, ◌+◌, ◌-◌, ◌==◌, Bool, true, false, ◌&&◌, ◌||◌, not, nat_lt, nat_le, max, if◌then◌else◌, List, [], ◌∷◌, ◌++◌, length, take, drop, slice_set}
 use Rattle.std.specs.List.{filter, flat_map, fold, remove, list_all, position_or_len}
 use Rattle.iq_world.specs.declared.worlds.World.{World}
 use Rattle.iq_world.specs.declared.worlds.WorldNode.{WorldNode}
 use Rattle.iq_world.specs.declared.worlds.WorldRun.{WorldRun}
-use Rattle.iq_world.specs.declared.worlds.Report.{Report}
 use Rattle.iq_world.specs.declared.worlds.Reach.{Reach}
 use Rattle.iq_world.specs.declared.worlds.WorldStep.{WorldStep}
 use Rattle.iq_world.specs.declared.worlds.WorldStep.TheVariants.{Begin, Reserve, Take, Back, Commit, End, Sync, Apply, Send, Lose, TakeReport, Own, Restart, Exclude, Include}

@@ -1,6 +1,6 @@
 -- How often a number stands in a list, and a world's nodes, runs and reports by their names.
-use Rattle.std.specs.Prelude.{ℕ, ◌+◌, ◌-◌, ◌==◌, Bool, true, false, ◌&&◌, not, nat_lt, if◌then◌else◌, List, [], ◌∷◌, ◌++◌, length, count_by, slice_index_or, slice_set}
-use Rattle.std.specs.List.{list_any, filter, flat_map, fold, insert, position_or_len}
+use Rattle.std.specs.Prelude.{ℕ, ◌==◌, Bool, false, ◌&&◌, not, nat_lt, List, [], length, count_by, slice_index_or}
+use Rattle.std.specs.List.{list_any, filter, fold, insert, position_or_len}
 use Rattle.iq_world.specs.declared.worlds.World.{World}
 use Rattle.iq_world.specs.declared.worlds.WorldNode.{WorldNode}
 use Rattle.iq_world.specs.declared.worlds.WorldRun.{WorldRun}

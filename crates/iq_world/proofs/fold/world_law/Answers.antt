@@ -1,7 +1,6 @@
-use Rattle.std.proofs.Common.{◌≡◌, List, take, get_or, sym, ap, ◌∙◌, arith}
+use Rattle.std.proofs.Common.{take, sym, ap, ◌∙◌, arith}
 use Rattle.std.proofs.lemmas.List.Sums.{fold_more}
 use Rattle.iq_world.specs.declared.worlds.World.{World}
-use Rattle.iq_world.specs.declared.worlds.WorldStep.{WorldStep}
 use Rattle.iq_world.specs.Steps.{after, after_all}
 use Rattle.iq_world.proofs.Each.{each_step}
 use Rattle.iq_world.proofs.fold.world_law.Goals as goal

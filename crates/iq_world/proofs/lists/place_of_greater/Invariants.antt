@@ -1,4 +1,4 @@
-use Rattle.std.proofs.Common.{◌≡◌, ◌+◌, ◌==◌, nat_lt, drop}
+use Rattle.std.proofs.Common.{◌≡◌, ◌+◌, nat_lt, drop}
 use Rattle.std.specs.List.{position_or_len}
 use Rattle.iq_world.proofs.lists.place_of_greater.Given as goal
 

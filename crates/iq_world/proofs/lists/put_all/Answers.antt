@@ -1,4 +1,4 @@
-use Rattle.std.proofs.Common.{ℕ, ◌<◌, List, length, get_or, ap, sym, ◌∙◌, arith}
+use Rattle.std.proofs.Common.{ℕ, List, get_or, ap, sym, ◌∙◌, arith}
 use Rattle.std.proofs.lemmas.List.Sums.{fold_more}
 use Rattle.iq_world.specs.World.{put}
 use Rattle.iq_world.proofs.lists.put_all.Goals as goal

@@ -1,4 +1,4 @@
-use Rattle.std.proofs.Common.{◌≡◌, ◌≤◌, ◌+◌, ◌-◌, ◌++◌, suc, ℕ, List, ap, sym, ◌∙◌, arith}
+use Rattle.std.proofs.Common.{◌≡◌, ◌+◌, ◌-◌, ◌++◌, suc, ℕ, List, ap, sym, ◌∙◌, arith}
 use Rattle.iq_world.specs.Space.{dropped, dropped_after}
 use Rattle.iq_world.proofs.Drops.{dropped_after-more}
 use Rattle.iq_world.proofs.space.dropped_between.Goals as goal

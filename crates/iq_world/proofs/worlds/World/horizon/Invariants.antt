@@ -1,4 +1,4 @@
-use Rattle.std.proofs.Common.{◌≡◌, take, drop}
+use Rattle.std.proofs.Common.{◌≡◌, take}
 use Rattle.std.specs.List.{fold}
 use Rattle.iq_world.specs.Floors.{floor_of, lower_taken}
 use Rattle.iq_world.proofs.worlds.World.horizon.Given as goal
