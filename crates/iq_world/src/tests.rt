@@ -193,6 +193,85 @@ fn an_excluded_node_holds_nothing_back_and_is_included_at_the_latest_commit(
 }
 
 #[test]
+fn what_a_secondary_took_and_does_not_reach_goes_back_to_its_reservation(
+    rt: HostRuntime,
+) -> Result<(), Fail> {
+    let alloc = rt.alloc();
+    let steps = vec![in alloc;
+        Begin {
+            session: 0,
+            node: 1
+        },
+        Reserve { node: 1 },
+        Take {
+            session: 0,
+            block: 5
+        },
+        Take {
+            session: 0,
+            block: 6
+        },
+        Take {
+            session: 0,
+            block: 7
+        },
+        Back {
+            session: 0,
+            kept: 2
+        },
+        Commit {
+            session: 0,
+            reach: blocks(alloc, &[4, 5])?
+        },
+        Begin {
+            session: 1,
+            node: 0
+        },
+        Commit {
+            session: 1,
+            reach: blocks(alloc, &[5])?
+        },
+        Apply { node: 1 },
+        Send { node: 1 },
+        Send { node: 1 },
+        Lose { number: 2 },
+        TakeReport { number: 2 },
+        TakeReport { number: 1 },
+        Begin {
+            session: 0,
+            node: 1
+        },
+        Take {
+            session: 0,
+            block: 7
+        },
+        End { session: 0 },
+    ]?;
+    let lines = [
+        "free [5, 6, 7], 0: [4]; at 0; at 0 taken 0 life 1 reserved []; next 1 base 0",
+        "free [5, 6, 7], 0: [4]; at 0; at 0 taken 0 life 1 reserved []; run 0 on 1 at 0 []; next 1 base 0",
+        "free [], 0: [4]; at 0; at 0 taken 0 life 1 reserved [5, 6, 7]; run 0 on 1 at 0 []; next 1 base 0",
+        "free [], 0: [4]; at 0; at 0 taken 0 life 1 reserved [6, 7]; run 0 on 1 at 0 [5]; next 1 base 0",
+        "free [], 0: [4]; at 0; at 0 taken 0 life 1 reserved [7]; run 0 on 1 at 0 [5, 6]; next 1 base 0",
+        "free [], 0: [4]; at 0; at 0 taken 0 life 1 reserved []; run 0 on 1 at 0 [5, 6, 7]; next 1 base 0",
+        "free [], 0: [4]; at 0; at 0 taken 0 life 1 reserved [7]; run 0 on 1 at 0 [5, 6]; next 1 base 0",
+        "free [], 0: [4], 1: [4, 5]; at 1; at 1 taken 0 life 1 reserved [7, 6]; next 1 base 0",
+        "free [], 0: [4], 1: [4, 5]; at 1; at 1 taken 0 life 1 reserved [7, 6]; run 1 on 0 at 1 []; next 1 base 0",
+        "free [], 0: [4], 1: [4, 5], 2: [5]; at 2; at 1 taken 0 life 1 reserved [7, 6]; next 1 base 0",
+        "free [], 0: [4], 1: [4, 5], 2: [5]; at 2; at 2 taken 0 life 1 reserved [7, 6]; next 1 base 0",
+        "free [], 0: [4], 1: [4, 5], 2: [5]; at 2; at 2 taken 0 life 1 reserved [7, 6]; report 1 of 1 floor 2; next 2 base 0",
+        "free [], 0: [4], 1: [4, 5], 2: [5]; at 2; at 2 taken 0 life 1 reserved [7, 6]; report 1 of 1 floor 2; report 2 of 1 floor 2; next 3 base 0",
+        "free [], 0: [4], 1: [4, 5], 2: [5]; at 2; at 2 taken 0 life 1 reserved [7, 6]; report 1 of 1 floor 2; next 3 base 0",
+        "free [], 0: [4], 1: [4, 5], 2: [5]; at 2; at 2 taken 0 life 1 reserved [7, 6]; report 1 of 1 floor 2; next 3 base 0",
+        "free [4], 2: [5]; at 2; at 2 taken 2 life 1 reserved [7, 6]; report 1 of 1 floor 2; next 3 base 2",
+        "free [4], 2: [5]; at 2; at 2 taken 2 life 1 reserved [7, 6]; run 0 on 1 at 2 []; report 1 of 1 floor 2; next 3 base 2",
+        "free [4], 2: [5]; at 2; at 2 taken 2 life 1 reserved [6]; run 0 on 1 at 2 [7]; report 1 of 1 floor 2; next 3 base 2",
+        "free [4], 2: [5]; at 2; at 2 taken 2 life 1 reserved [6, 7]; report 1 of 1 floor 2; next 3 base 2",
+    ];
+    goes_through(&rt, 8, steps.as_slice(), &lines)
+}
+
+#[test]
 fn no_steps_leave_the_world_as_it_is(rt: HostRuntime) -> Result<(), Fail> {
     let alloc = rt.alloc();
     let same = world_law(alloc, opening(alloc, 14, 2, &[4])?, &[])?;
