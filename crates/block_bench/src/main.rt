@@ -7,11 +7,10 @@
 
 use iq_block_store::{BlockFault, Page, read, write};
 use iq_outside::{Block, Device, FileDevice};
-use std::env;
 use std::fs::File;
-use std::io;
 use std::rt::Files;
 use std::time::{CpuClock, Duration};
+use std::{env, io};
 
 /// The kind of a block that holds a page.
 const PAGE: u8 = 5;
