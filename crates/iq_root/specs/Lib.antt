@@ -1,3 +1,4 @@
-pub mod Causes
 pub mod Roots
+pub mod Causes
+pub mod Stops
 pub mod Publishing
