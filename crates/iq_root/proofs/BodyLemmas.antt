@@ -1,28 +1,23 @@
 -- A body and a gate read as they were written.
 use Rattle.std.specs.Prelude.{◌≡◌, ℕ, zero, suc, ◌+◌, ◌-◌, ◌*◌, ◌^◌, ◌<◌, ◌≤◌, List, [], ◌∷◌, ◌++◌, length, drop, flat_map, All}
 use Rattle.std.proofs.Common.{refl, sym, ap, ◌∙◌, arith, append_assoc, length-append}
-use Rattle.std.proofs.Math.Seq.{drop-append_seam}
+use Rattle.std.proofs.lemmas.List.Elements.{All-head, All-tail}
 use Rattle.byteorder.specs.Endian.{little_number, little_bytes}
 use Rattle.byteorder.specs.Numbers.{little_number-reads_back, length-bytes_low_first}
-use Rattle.iq_block_store.specs.Frames.{number_at, bytes_of, header, framed}
-use Rattle.iq_block_store.proofs.FrameLemmas.{length-header, length-bytes_of, number_at-bytes_of, number_at-append, number_at-framed}
+use Rattle.iq_block_store.specs.Frames.{number_at, bytes_of, framed, payload_of}
+use Rattle.iq_block_store.proofs.FrameLemmas.{length-bytes_of, number_at-bytes_of, number_at-append, number_at-framed, payload_of-framed}
 use Rattle.iq_root.specs.Roots.{long_at, long_bytes, zeros, numbers_at, root_of, body_page, gate_page, body_block, gate_block, body_kind, gate_kind}
 use Rattle.iq_root.specs.declared.root.Root.{Root}
 
-length-long_bytes : (x : ℕ) → length (long_bytes x) ≡ 8
+pub length-long_bytes : (x : ℕ) → length (long_bytes x) ≡ 8
 unfolding long_bytes
 length-long_bytes x = length-bytes_low_first 0 8 x
 
--- the payload of a block
-payload_of : (kind at level : ℕ) (payload : List ℕ) → drop 16 (framed kind at level payload) ≡ payload
-payload_of kind at level payload =
-    ap (λ (n : ℕ). drop n (framed kind at level payload)) (sym (length-header kind at level)) ∙ drop-append_seam (header kind at level) payload
-
 -- the generation that a body or a gate tells
 long_at-framed : (kind at level x : ℕ) (rest : List ℕ) → x < 2 ^ 64 → long_at (framed kind at level (long_bytes x ++ rest)) 16 ≡ x
-unfolding long_at long_bytes
+unfolding long_at long_bytes payload_of
 long_at-framed kind at level x rest fits =
-    ap (little_number 8) (payload_of kind at level (little_bytes 8 x ++ rest)) ∙ little_number-reads_back 8 x rest fits
+    ap (little_number 8) (payload_of-framed kind at level (little_bytes 8 x ++ rest)) ∙ little_number-reads_back 8 x rest fits
 
 pub gate_tells : (slot generation : ℕ) → generation < 2 ^ 64 → long_at (gate_block slot generation) 16 ≡ generation
 gate_tells slot generation fits = long_at-framed gate_kind (2 * slot + 1) 0 generation (zeros 1000) fits
@@ -38,7 +33,8 @@ tail_of root = bytes_of root.format ++ (bytes_of root.count ++ (bytes_of (length
 body_number : (slot : ℕ) (root : Root) (i : ℕ) → number_at (body_block slot root) (24 + i) ≡ number_at (tail_of root) i
 unfolding tail_of
 body_number slot root i =
-    number_at-framed body_kind (2 * slot) 0 (body_page root) (8 + i)
+    ap (number_at (body_block slot root)) (omega arith)
+    ∙ number_at-framed body_kind (2 * slot) 0 (body_page root) (8 + i)
     ∙ number_at-append (long_bytes root.generation) _ 8 i (length-long_bytes root.generation)
 
 pub body_format : (slot : ℕ) (root : Root) → root.format < 2 ^ 32 → number_at (body_block slot root) 24 ≡ root.format
@@ -69,8 +65,8 @@ numbers_read block front rest (x ∷ xs) n fit is size =
       = is ∙ ap (λ (t : List ℕ). front ++ t) (append_assoc (bytes_of x) (flat_map bytes_of xs) rest) in
     let head : number_at block n ≡ x
       = ap (λ (t : List ℕ). number_at t n) split ∙ ap (number_at (front ++ (bytes_of x ++ (flat_map bytes_of xs ++ rest)))) (omega arith)
-        ∙ number_at-append front _ n 0 size ∙ number_at-bytes_of x _ fit.0 in
+        ∙ number_at-append front _ n 0 size ∙ number_at-bytes_of x _ (All-head (λ (y : ℕ). y < 2 ^ 32) x xs fit) in
     let longer : length (front ++ bytes_of x) ≡ n + 4 = omega (arith, size, length-append front (bytes_of x), length-bytes_of x) in
     let rest_is : block ≡ (front ++ bytes_of x) ++ (flat_map bytes_of xs ++ rest) = split ∙ sym (append_assoc front (bytes_of x) (flat_map bytes_of xs ++ rest)) in
     ap (λ (m : ℕ). m ∷ numbers_at block (n + 4) (length xs)) head
-    ∙ ap (λ (ms : List ℕ). x ∷ ms) (numbers_read block (front ++ bytes_of x) rest xs (n + 4) fit.1 rest_is longer)
+    ∙ ap (λ (ms : List ℕ). x ∷ ms) (numbers_read block (front ++ bytes_of x) rest xs (n + 4) (All-tail (λ (y : ℕ). y < 2 ^ 32) x xs fit) rest_is longer)

@@ -1,2 +1,4 @@
 pub mod BodyLemmas
+pub mod MomentLemmas
 pub mod NewestLemmas
+pub mod PageLemmas

@@ -1,4 +1,5 @@
 pub mod Roots
+pub mod Pages
 pub mod Causes
 pub mod Stops
 pub mod Publishing

@@ -1,8 +1,9 @@
 //! The newest root of a store.
 ghost use Rattle.std.specs.Prelude.{◌≡◌, ◌+◌, ◌*◌, ◌<◌, ◌≤◌, ℕ, List, Some, length, take, IfOk, IfErr, IsTrue, true, nat_lt};
-ghost use Rattle.iq_outside.specs.Devices.{HasLooked, block_of};
+ghost use Rattle.iq_outside.specs.Devices.{block_of};
 ghost use Rattle.iq_block_store.specs.Frames.{has_header, number_at};
-ghost use Rattle.iq_root.specs.Roots.{Formats, store_formats, long_at, numbers_at, root_of, may_say, is_valid, slot_root, newer, newest};
+ghost use Rattle.iq_block_store.specs.Looks.{HasLooked};
+ghost use Rattle.iq_root.specs.Roots.{long_at, numbers_at, root_of, may_say, slot_root, newer, newest};
 ghost use Rattle.iq_root.specs.Causes.{HasNoRoot, HasFault};
 
 use crate::pages::{BODY, GATE, long_at};
@@ -13,15 +14,15 @@ use iq_outside::{Block, Device};
 /// The formats that count, from the least to the most.
 const LEAST_FORMAT: u32 = 1;
 
-const MOST_FORMAT: u32 = 1;
+const MOST_FORMAT: u32 = 2;
 
 /// The newest root: of the valid slots the one of greater generation. It takes no memory.
 pub fn newest_root<D: Device>(disk: &mut D) -> Result<Root, RootFault>
     ensures looked { HasLooked D.blocks D.faults D.tells D.clock D.image disk.old disk.new }
     ensures newest { IfOk result (λ root. (all : List (List ℕ)) → D.blocks disk.old ≡ Some all
-        → newest store_formats all ≡ Some root) }
+        → newest all ≡ Some root) }
     ensures cause { IfErr result (λ e.
-        HasNoRoot store_formats e (D.blocks disk.old) (D.faults disk.old) (D.faults disk.new)) }
+        HasNoRoot e (D.blocks disk.old) (D.faults disk.old) (D.faults disk.new)) }
 {
     let count = count_of(disk)?;
     let first = slot_root(disk, count, 0)?;
@@ -51,7 +52,7 @@ fn slot_root<D: Device>(disk: &mut D, count: u32, slot: u32) -> Result<Option<Ro
     requires slot { slot < 2 }
     ensures looked { HasLooked D.blocks D.faults D.tells D.clock D.image disk.old disk.new }
     ensures root { IfOk result (λ root. (all : List (List ℕ)) → D.blocks disk.old ≡ Some all
-        → root ≡ slot_root store_formats slot all) }
+        → root ≡ slot_root slot all) }
     ensures cause { IfErr result (λ e. HasFault e (D.faults disk.old) (D.faults disk.new)) }
 {
     let mut body = [0; 1024];
@@ -98,7 +99,7 @@ fn fetched<D: Device>(
 
 /// Whether a body may say what it says in this slot.
 fn may_say(slot: u32, body: &Block) -> bool
-    ensures { result ≡ may_say store_formats slot body.now }
+    ensures { result ≡ may_say slot body.now }
 {
     let generation = long_at(body);
     1 <= generation
