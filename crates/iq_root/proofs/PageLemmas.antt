@@ -1,12 +1,13 @@
 -- A page that is written from its front on.
-use Rattle.std.specs.Prelude.{◌≡◌, ℕ, suc, ◌+◌, ◌-◌, ◌*◌, ◌<◌, List, [], ◌∷◌, ◌++◌, length, take, drop}
+use Rattle.std.specs.Prelude.{◌≡◌, ℕ, suc, ◌+◌, ◌-◌, ◌*◌, ◌<◌, List, [], ◌∷◌, ◌++◌, length, take, drop, flat_map, get_or}
 use Rattle.std.proofs.Common.{refl, sym, ap, ◌∙◌, arith, append_assoc, length-append}
 use Rattle.std.proofs.Math.Seq.{take-append_seam, drop-append_seam}
-use Rattle.std.proofs.lemmas.List.{drop-replicate}
+use Rattle.std.proofs.lemmas.List.{drop-replicate, take_more, flat_map_more}
 use borrow.Rule.Slice.PartMut.{put_mid}
-use Rattle.iq_block_store.specs.Frames.{number_at}
-use Rattle.iq_root.specs.Roots.{zeros, numbers_at}
+use Rattle.iq_block_store.specs.Frames.{number_at, bytes_of}
+use Rattle.iq_root.specs.Roots.{zeros, long_bytes, numbers_at, body_page}
 use Rattle.iq_root.specs.Pages.{IsDone}
+use Rattle.iq_root.specs.declared.root.Root.{Root}
 
 -- the front is what is done
 front_done : (done rest : List ℕ) (at : ℕ) → length done ≡ at → take at (done ++ rest) ≡ done
@@ -58,3 +59,19 @@ numbers_go_on block old new whole x n k pushed is within so_far =
     ap (λ (l : List ℕ). l ++ rest) pushed ∙ append_assoc old (x ∷ []) rest ∙ ap (λ (y : ℕ). old ++ y ∷ rest) is
     ∙ ap (λ (l : List ℕ). old ++ l) (sym (numbers_step block (36 + 4 * k) (36 + 4 * (k + 1)) (n - k) (n - (k + 1)) (omega arith) (omega arith)))
     ∙ so_far
+
+-- the bytes of one number more
+pub one_more : (done bytes xs : List ℕ) (k : ℕ) → k < length xs → bytes ≡ bytes_of (get_or xs k 0)
+    → (done ++ flat_map bytes_of (take k xs)) ++ bytes ≡ done ++ flat_map bytes_of (take (k + 1) xs)
+one_more done bytes xs k within is =
+    ap (λ (b : List ℕ). (done ++ flat_map bytes_of (take k xs)) ++ b) is ∙ flat_map_more bytes_of done (take k xs) (get_or xs k 0)
+    ∙ ap (λ (ys : List ℕ). done ++ flat_map bytes_of ys) (sym (take_more xs k 0 within))
+
+-- a body's page, by its tables
+pub body_of_tables : (root : Root) (ts : List ℕ) → ts ≡ root.tables
+    → long_bytes root.generation ++ (bytes_of root.format ++ (bytes_of root.count ++ (bytes_of (length ts)
+      ++ (flat_map bytes_of ts ++ zeros (1008 - (20 + 4 * length ts)))))) ≡ body_page root
+body_of_tables root ts is =
+    rw is
+    (ap (λ (n : ℕ). long_bytes root.generation ++ (bytes_of root.format ++ (bytes_of root.count ++ (bytes_of (length root.tables)
+      ++ (flat_map bytes_of root.tables ++ zeros n))))) (omega arith))

@@ -1,8 +1,8 @@
 //! The bytes of bodies and gates.
-ghost use Rattle.std.specs.Prelude.{◌≡◌, ◌+◌, ◌*◌, ◌≤◌, ◌++◌, ℕ, List, [], length, flat_map};
+ghost use Rattle.std.specs.Prelude.{◌≡◌, ◌+◌, ◌*◌, ◌^◌, ◌<◌, ◌≤◌, ◌++◌, ℕ, List, [], length, flat_map, All};
 ghost use Rattle.iq_block_store.specs.Frames.{bytes_of};
 ghost use Rattle.iq_root.specs.Roots.{long_at, long_bytes, body_page, gate_page};
-ghost use Rattle.iq_root.specs.Pages.{IsDone};
+ghost use Rattle.iq_root.specs.Pages.{IsDone, RootFits};
 
 use crate::Root;
 use byteorder::{ByteOrder, LittleEndian};
@@ -34,7 +34,8 @@ pub fn gate_page(generation: u64) -> Page
 
 /// The payload of a body.
 pub fn body_page(root: &Root) -> Page
-    ensures { result ≡ body_page root.now }
+    ensures page { result ≡ body_page root.now }
+    ensures fits { RootFits root.now }
 {
     let tables = root.tables.as_slice();
     let mut page = blank();
@@ -49,8 +50,9 @@ pub fn body_page(root: &Root) -> Page
 /// Writes addresses behind the first 20 bytes of a page that is written up to there.
 fn put_all(page: &mut Page, tables: &[u32])
     requires { length tables.now ≤ 64 }
-    ensures { (done : List ℕ) → IsDone 20 done page.old
+    ensures done { (done : List ℕ) → IsDone 20 done page.old
         → IsDone (20 + 4 * length tables.now) (done ++ flat_map bytes_of tables.now) page.new }
+    ensures fits { All (λ address. address < 2 ^ 32) tables.now }
 {
     for (k, address) in tables.iter().enumerate() {
         put(page, 20 + 4 * k, &bytes_of(*address));
@@ -68,7 +70,8 @@ fn blank() -> Page
 /// The 4 bytes of a number.
 #[tactic(auto, unfolding(iq_block_store::specs::Frames::bytes_of))]
 fn bytes_of(n: u32) -> [u8; 4]
-    ensures { result ≡ bytes_of n }
+    ensures bytes { result ≡ bytes_of n }
+    ensures fits { n < 2 ^ 32 }
 {
     let mut bytes = [0; 4];
     LittleEndian::write_u32(&mut bytes, n);
@@ -78,7 +81,8 @@ fn bytes_of(n: u32) -> [u8; 4]
 /// The 8 bytes of a number.
 #[tactic(auto, unfolding(crate::specs::Roots::long_bytes))]
 fn long_bytes(n: u64) -> [u8; 8]
-    ensures { result ≡ long_bytes n }
+    ensures bytes { result ≡ long_bytes n }
+    ensures fits { n < 2 ^ 64 }
 {
     let mut bytes = [0; 8];
     LittleEndian::write_u64(&mut bytes, n);
