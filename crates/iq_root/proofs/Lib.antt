@@ -2,3 +2,6 @@ pub mod BodyLemmas
 pub mod MomentLemmas
 pub mod NewestLemmas
 pub mod PageLemmas
+pub mod PublishLemmas
+pub mod SlotLemmas
+pub mod StepLemmas

@@ -51,7 +51,7 @@ if_some : (v : Bool) (x root : Root) → (if v then Some x else None) ≡ Some r
 if_some true x root is = (refl, cc)
 if_some false x root is = cc
 
-if_older : (v : Bool) (x : Root) (n : ℕ) → (v ≡ true → x.generation < n) → IsOlder (if v then Some x else None) n
+pub if_older : (v : Bool) (x : Root) (n : ℕ) → (v ≡ true → x.generation < n) → IsOlder (if v then Some x else None) n
 if_older true x n older = older refl
 if_older false x n older = tt
 
@@ -60,7 +60,7 @@ if_one true x root is = inr (ap Some is)
 if_one false x root is = inl refl
 
 -- a root has the parity of its slot
-slot_parity : (slot : ℕ) (blocks : List (List ℕ)) (root : Root) → slot_root slot blocks ≡ Some root → root.generation % 2 ≡ slot
+pub slot_parity : (slot : ℕ) (blocks : List (List ℕ)) (root : Root) → slot_root slot blocks ≡ Some root → root.generation % 2 ≡ slot
 slot_parity slot blocks root is =
     let parts = if_some (is_valid slot (block_of blocks (2 * slot)) (block_of blocks (2 * slot + 1))) (root_of (block_of blocks (2 * slot))) root is in
     let valid : IsValid slot (block_of blocks (2 * slot)) (block_of blocks (2 * slot + 1)) = valid_parts slot _ _ parts.0 in

@@ -8,8 +8,10 @@
 mod addresses;
 mod newest;
 mod pages;
+mod publishing;
 mod root;
 
 pub use addresses::Addresses;
 pub use newest::newest_root;
+pub use publishing::publish;
 pub use root::{Root, RootFault};
