@@ -6,7 +6,7 @@ use Rattle.iq_outside.specs.Devices.{KeepsPast, AddsNone}
 use Rattle.iq_block_store.specs.Looks.{HasLooked}
 use Rattle.iq_root.specs.Stops.{LeavesOnly}
 
-module _ {D : Type 0} (blocks : D → Option (List (List ℕ))) (faults : D → ℕ) (tells : D → Bool) (clock : D → ℕ) (image : D → ℕ → List (List ℕ) → Type 0) where
+module _ {D : Type 0} (tells : D → Bool) (clock : D → ℕ) (image : D → ℕ → List (List ℕ) → Type 0) where
   pub past_on : (old mid new : D) → KeepsPast tells clock image old mid → KeepsPast tells clock image mid new → KeepsPast tells clock image old new
   past_on old mid new first second = record {
     same = second.same ∙ first.same;
@@ -29,9 +29,9 @@ module _ {D : Type 0} (blocks : D → Option (List (List ℕ))) (faults : D → 
       (λ t b since until left. first (clock mid) b before.later (omega arith) (second t b since until left))
 
   -- two calls that only look are one
-  pub looked_on : (old mid new : D) → HasLooked blocks faults tells clock image old mid → HasLooked blocks faults tells clock image mid new
+  pub looked_on : (blocks : D → Option (List (List ℕ))) (faults : D → ℕ) (old mid new : D) → HasLooked blocks faults tells clock image old mid → HasLooked blocks faults tells clock image mid new
       → HasLooked blocks faults tells clock image old new
-  looked_on old mid new first second = record {
+  looked_on blocks faults old mid new first second = record {
     unchanged = second.unchanged ∙ first.unchanged;
     later = omega (arith, first.later, second.later);
     past = past_on old mid new first.past second.past;

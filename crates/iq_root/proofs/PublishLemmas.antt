@@ -16,6 +16,22 @@ use Rattle.iq_root.proofs.NewestLemmas.{IsValid, valid_parts, IsOlder, AreBoth, 
 use Rattle.iq_root.proofs.BodyLemmas.{gate_tells, root_of_body, written_valid}
 use Rattle.iq_root.specs.declared.root.Root.{Root}
 
+-- the blocks with the gate closed, and then with the body behind it
+abbrev pub closed_blocks : Root → List (List ℕ) → List (List ℕ)
+closed_blocks root all = slice_set all (gate_place (slot_of root)) (gate_block (slot_of root) 0)
+
+abbrev pub body_blocks : Root → List (List ℕ) → List (List ℕ)
+body_blocks root all = slice_set (closed_blocks root all) (body_place (slot_of root)) (body_block (slot_of root) root)
+
+-- once the gate is open
+pub opened : (root : Root) (all : List (List ℕ))
+    → slice_set (body_blocks root all) (gate_place (slot_of root)) (gate_block (slot_of root) root.generation) ≡ published root all
+opened root all =
+    ap (λ (bs : List (List ℕ)). slice_set bs (gate_place (slot_of root)) (gate_block (slot_of root) root.generation))
+      (set_comm all (gate_place (slot_of root)) (body_place (slot_of root)) (gate_block (slot_of root) 0) (body_block (slot_of root) root) (omega arith))
+    ∙ set-set (slice_set all (body_place (slot_of root)) (body_block (slot_of root) root)) (gate_place (slot_of root))
+      (gate_block (slot_of root) 0) (gate_block (slot_of root) root.generation)
+
 -- the slots of two roots in a row
 both_slots : (last root : Root) → root.generation ≡ last.generation + 1 → AreBoth (slot_of root) (slot_of last)
 both_slots last root next = elim (cases_lt (last.generation % 2) 1) [
@@ -168,24 +184,17 @@ module _ (all : List (List ℕ)) (last root : Root) (follows : Follows all last 
       | inr (inr (inr (inr there))) ↦ last_or_new b there
       ]
 
-  -- the blocks with the gate closed, and then with the body behind it
-  abbrev pub closed_blocks : List (List ℕ)
-  closed_blocks = slice_set all (gate_place (slot_of root)) (gate_block (slot_of root) 0)
+  closed_rest : SameButSlot (slot_of root) all (closed_blocks root all)
+  closed_rest = in_slot (slot_of root) (gate_place (slot_of root)) all (closed_blocks root all) (inr refl) (SameBut-set (gate_place (slot_of root)) all (gate_block (slot_of root) 0))
 
-  abbrev pub body_blocks : List (List ℕ)
-  body_blocks = slice_set closed_blocks (body_place (slot_of root)) (body_block (slot_of root) root)
-
-  closed_rest : SameButSlot (slot_of root) all closed_blocks
-  closed_rest = in_slot (slot_of root) (gate_place (slot_of root)) all closed_blocks (inr refl) (SameBut-set (gate_place (slot_of root)) all (gate_block (slot_of root) 0))
-
-  body_rest : SameButSlot (slot_of root) all body_blocks
-  body_rest = slot_trans (slot_of root) all closed_blocks body_blocks closed_rest
-      (in_slot (slot_of root) (body_place (slot_of root)) closed_blocks body_blocks (inl refl) (SameBut-set (body_place (slot_of root)) closed_blocks (body_block (slot_of root) root)))
+  body_rest : SameButSlot (slot_of root) all (body_blocks root all)
+  body_rest = slot_trans (slot_of root) all (closed_blocks root all) (body_blocks root all) closed_rest
+      (in_slot (slot_of root) (body_place (slot_of root)) (closed_blocks root all) (body_blocks root all) (inl refl) (SameBut-set (body_place (slot_of root)) (closed_blocks root all) (body_block (slot_of root) root)))
 
   -- while the body is written
-  pub writing : (b : List (List ℕ)) → SameBut (body_place (slot_of root)) closed_blocks b → HasLastOrNew all last root b
+  pub writing : (b : List (List ℕ)) → SameBut (body_place (slot_of root)) (closed_blocks root all) b → HasLastOrNew all last root b
   writing b torn =
-      let rest : SameButSlot (slot_of root) all b = slot_trans (slot_of root) all closed_blocks b closed_rest (in_slot (slot_of root) (body_place (slot_of root)) closed_blocks b (inl refl) torn) in
+      let rest : SameButSlot (slot_of root) all b = slot_trans (slot_of root) all (closed_blocks root all) b closed_rest (in_slot (slot_of root) (body_place (slot_of root)) (closed_blocks root all) b (inl refl) torn) in
       let same = other_same (slot_of root) (slot_of last) all b both rest in
       let gate : block_of b (gate_place (slot_of root)) ≡ gate_block (slot_of root) 0
         = torn.others (gate_place (slot_of root)) (omega arith)
@@ -194,21 +203,13 @@ module _ (all : List (List ℕ)) (last root : Root) (follows : Follows all last 
         (closed_over_any b (slot_of root) last.generation (ap (λ (g : List ℕ). long_at g 16) gate ∙ gate_tells (slot_of root) 0 (omega arith))))
 
   -- while the gate is opened
-  pub opening : (b : List (List ℕ)) → SameBut (gate_place (slot_of root)) body_blocks b → HasLastOrNew all last root b
+  pub opening : (b : List (List ℕ)) → SameBut (gate_place (slot_of root)) (body_blocks root all) b → HasLastOrNew all last root b
   opening b torn = last_or_new b (record {
     body = torn.others (body_place (slot_of root)) (omega arith)
-        ∙ get_or-set_same closed_blocks (body_place (slot_of root)) (body_block (slot_of root) root) []
+        ∙ get_or-set_same (closed_blocks root all) (body_place (slot_of root)) (body_block (slot_of root) root) []
           (omega (arith, two, four, length-set all (gate_place (slot_of root)) (gate_block (slot_of root) 0)));
-    rest = slot_trans (slot_of root) all body_blocks b body_rest (in_slot (slot_of root) (gate_place (slot_of root)) body_blocks b (inr refl) torn);
+    rest = slot_trans (slot_of root) all (body_blocks root all) b body_rest (in_slot (slot_of root) (gate_place (slot_of root)) (body_blocks root all) b (inr refl) torn);
   })
-
-  -- once it is open
-  pub opened : slice_set body_blocks (gate_place (slot_of root)) (gate_block (slot_of root) root.generation) ≡ published root all
-  opened =
-      ap (λ (bs : List (List ℕ)). slice_set bs (gate_place (slot_of root)) (gate_block (slot_of root) root.generation))
-        (set_comm all (gate_place (slot_of root)) (body_place (slot_of root)) (gate_block (slot_of root) 0) (body_block (slot_of root) root) (omega arith))
-      ∙ set-set (slice_set all (body_place (slot_of root)) (body_block (slot_of root) root)) (gate_place (slot_of root))
-        (gate_block (slot_of root) 0) (gate_block (slot_of root) root.generation)
 
   published_rest : SameButSlot (slot_of root) all (published root all)
   published_rest =

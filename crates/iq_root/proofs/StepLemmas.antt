@@ -21,33 +21,20 @@ on_err (Err e) p = p
 pub told_once : (told : Option (List (List ℕ))) (a b : List (List ℕ)) → told ≡ Some a → told ≡ Some b → a ≡ b
 told_once told a b first second = cc
 
-module _ {D : Type 0} (blocks : D → Option (List (List ℕ))) (faults : D → ℕ) (tells : D → Bool) (clock : D → ℕ) (image : D → ℕ → List (List ℕ) → Type 0) where
-  pub kept_ok : {T E U F : Type 0} (at : ℕ) (block : List ℕ) (u : U) (result : Result T E) (old mid new : D)
+module _ {D : Type 0} (blocks : D → Option (List (List ℕ))) (tells : D → Bool) (clock : D → ℕ) (image : D → ℕ → List (List ℕ) → Type 0) where
+  pub kept_ok : {T E U F : Type 0} (faults : D → ℕ) (at : ℕ) (block : List ℕ) (u : U) (result : Result T E) (old mid new : D)
       → HasWritten {D = D} {T = U} {E = F} blocks faults tells clock image at block (Ok u) old mid → HasSynced blocks faults tells clock image result mid new
       → HasKept blocks tells clock image at block result old new
-  kept_ok at block u result old mid new wrote synced = record {
+  kept_ok faults at block u result old mid new wrote synced = record {
     content = record {
       ok = λ all told. on_ok result (synced.content ∙ wrote.content.ok all told);
       err = λ all told. on_err result (slice_set all at block, synced.content ∙ wrote.content.ok all told, SameBut-set at all block);
       untold = λ none. synced.content ∙ wrote.content.untold none;
     };
-    past = past_on blocks faults tells clock image old mid new wrote.past synced.past;
-    since = leaves_on blocks faults tells clock image old mid new (λ b. (c : List (List ℕ)) × image old (clock old) c × SameBut at c b) synced.past wrote.since
+    past = past_on tells clock image old mid new wrote.past synced.past;
+    since = leaves_on tells clock image old mid new (λ b. (c : List (List ℕ)) × image old (clock old) c × SameBut at c b) synced.past wrote.since
         (λ t b since until left. wrote.since (clock mid) b wrote.past.later (omega arith) (synced.since t b since until left));
     settled = synced.settled;
-  }
-
-  pub kept_err : {T E U F : Type 0} (at : ℕ) (block : List ℕ) (f : F) (e : E) (old new : D)
-      → HasWritten {D = D} {T = U} {E = F} blocks faults tells clock image at block (Err f) old new → HasKept {D = D} {T = T} {E = E} blocks tells clock image at block (Err e) old new
-  kept_err at block f e old new wrote = record {
-    content = record {
-      ok = λ all told. tt;
-      err = λ all told. wrote.content.err all told;
-      untold = wrote.content.untold;
-    };
-    past = wrote.past;
-    since = wrote.since;
-    settled = tt;
   }
 
   -- where nothing waited, only this block differs
@@ -71,7 +58,7 @@ module _ {D : Type 0} (blocks : D → Option (List (List ℕ))) (faults : D → 
       → (at ≡ body_place slot) ⊎ (at ≡ gate_place slot) → KeepsPast tells clock image old mid → LeavesOnly clock image old mid (LeftButSlot slot clock image old)
       → HasKept blocks tells clock image at block result mid new → LeavesOnly clock image old new (LeftButSlot slot clock image old)
   rest_goes_on slot at block result old mid new within past first kept =
-      leaves_on blocks faults tells clock image old mid new (LeftButSlot slot clock image old) kept.past first
+      leaves_on tells clock image old mid new (LeftButSlot slot clock image old) kept.past first
       (λ t b since until left.
         let from = kept.since t b since until left in
         let before = first (clock mid) from.0 past.later (omega arith) from.1 in
