@@ -64,10 +64,10 @@ numbers_read : (block front rest xs : List ℕ) (n : ℕ) → All (λ x. x < 2 ^
 numbers_read block front rest [] n fit is size = refl
 numbers_read block front rest (x ∷ xs) n fit is size =
     let split : block ≡ front ++ (bytes_of x ++ (flat_map bytes_of xs ++ rest))
-      = is ∙ ap (λ (t : List ℕ). front ++ t) (append_assoc (bytes_of x) (flat_map bytes_of xs) rest) in
+    = is ∙ ap (λ (t : List ℕ). front ++ t) (append_assoc (bytes_of x) (flat_map bytes_of xs) rest) in
     let head : number_at block n ≡ x
-      = ap (λ (t : List ℕ). number_at t n) split ∙ ap (number_at (front ++ (bytes_of x ++ (flat_map bytes_of xs ++ rest)))) (omega arith)
-        ∙ number_at-append front _ n 0 size ∙ number_at-bytes_of x _ (All-head (λ (y : ℕ). y < 2 ^ 32) x xs fit) in
+    = ap (λ (t : List ℕ). number_at t n) split ∙ ap (number_at (front ++ (bytes_of x ++ (flat_map bytes_of xs ++ rest)))) (omega arith)
+    ∙ number_at-append front _ n 0 size ∙ number_at-bytes_of x _ (All-head (λ (y : ℕ). y < 2 ^ 32) x xs fit) in
     let longer : length (front ++ bytes_of x) ≡ n + 4 = omega (arith, size, length-append front (bytes_of x), length-bytes_of x) in
     let rest_is : block ≡ (front ++ bytes_of x) ++ (flat_map bytes_of xs ++ rest) = split ∙ sym (append_assoc front (bytes_of x) (flat_map bytes_of xs ++ rest)) in
     ap (λ (m : ℕ). m ∷ numbers_at block (n + 4) (length xs)) head
@@ -101,20 +101,20 @@ Root-ext a b generation format count tables =
     ap (λ (n : ℕ). made n a.format a.count a.tables) generation ∙ ap (λ (n : ℕ). made b.generation n a.count a.tables) format
     ∙ ap (λ (n : ℕ). made b.generation b.format n a.tables) count ∙ ap (made b.generation b.format b.count) tables
   where
-  made : ℕ → ℕ → ℕ → List ℕ → Root
-  made generation format count tables = record { generation = generation; format = format; count = count; tables = tables }
+    made : ℕ → ℕ → ℕ → List ℕ → Root
+    made generation format count tables = record { generation = generation; format = format; count = count; tables = tables }
 
 -- a body tells its root
 pub root_of_body : (slot : ℕ) (root : Root) → RootFits root → root_of (body_block slot root) ≡ root
 root_of_body slot root fits =
     let few : number_at (body_block slot root) 32 ≡ length root.tables = body_tables slot root fits.few in
     let before : List ℕ = header body_kind (2 * slot) 0 ++ (long_bytes root.generation ++ (bytes_of root.format ++ (bytes_of root.count ++ bytes_of (length root.tables)))) in
-    let parts : body_block slot root ≡ before ++ (flat_map bytes_of root.tables ++ zeros (988 - 4 * length root.tables)) 
-      = body_parts (header body_kind (2 * slot) 0) (long_bytes root.generation) (bytes_of root.format) (bytes_of root.count)
-          (bytes_of (length root.tables)) (flat_map bytes_of root.tables ++ zeros (988 - 4 * length root.tables)) in
+    let parts : body_block slot root ≡ before ++ (flat_map bytes_of root.tables ++ zeros (988 - 4 * length root.tables))
+    = body_parts (header body_kind (2 * slot) 0) (long_bytes root.generation) (bytes_of root.format) (bytes_of root.count)
+    (bytes_of (length root.tables)) (flat_map bytes_of root.tables ++ zeros (988 - 4 * length root.tables)) in
     let size : length before ≡ 36 = body_front slot root in
     let tables : numbers_at (body_block slot root) 36 (number_at (body_block slot root) 32) ≡ root.tables
-      = ap (numbers_at (body_block slot root) 36) few ∙ numbers_read (body_block slot root) before _ root.tables 36 fits.tables parts size in
+    = ap (numbers_at (body_block slot root) 36) few ∙ numbers_read (body_block slot root) before _ root.tables 36 fits.tables parts size in
     Root-ext _ _ (body_tells slot root fits.generation) (body_format slot root fits.format) (body_count slot root fits.count) tables
 
 -- a slot that was written is valid
@@ -127,9 +127,9 @@ written_valid slot root two fits from_one below parity from upto =
     let format : number_at (body_block slot root) 24 ≡ root.format = body_format slot root fits.format in
     let few : number_at (body_block slot root) 32 ≡ length root.tables = body_tables slot root fits.few in
     let body_header : has_header body_kind (2 * slot) (body_block slot root) ≡ true
-      = has_header-framed body_kind (2 * slot) 0 (body_page root) (omega arith) (omega (arith, two)) (omega arith) (inr refl) in
+    = has_header-framed body_kind (2 * slot) 0 (body_page root) (omega arith) (omega (arith, two)) (omega arith) (inr refl) in
     let gate_header : has_header gate_kind (2 * slot + 1) (gate_block slot root.generation) ≡ true
-      = has_header-framed gate_kind (2 * slot + 1) 0 (gate_page root.generation) (omega arith) (omega (arith, two)) (omega arith) (inr refl) in
+    = has_header-framed gate_kind (2 * slot + 1) 0 (gate_page root.generation) (omega arith) (omega (arith, two)) (omega arith) (inr refl) in
     let same : nat_eq (long_at (body_block slot root) 16) (long_at (gate_block slot root.generation) 16) ≡ true = eq-eqb _ _ (tells ∙ sym gate) in
     let at_least : nat_le 1 (long_at (body_block slot root) 16) ≡ true = le-leb 1 (long_at (body_block slot root) 16) (omega (arith, tells, from_one)) in
     let at_most : nat_lt (long_at (body_block slot root) 16) (2 ^ 63) ≡ true = lt-ltb (long_at (body_block slot root) 16) (2 ^ 63) (omega (arith, tells, below)) in

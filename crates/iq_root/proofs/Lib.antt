@@ -1,4 +1,5 @@
 pub mod BodyLemmas
+pub mod FormatLemmas
 pub mod MomentLemmas
 pub mod NewestLemmas
 pub mod PageLemmas

@@ -19,9 +19,9 @@ module _ {D : Type 0} (tells : D → Bool) (clock : D → ℕ) (image : D → �
   pub leaves_on : (old mid new : D) (P : List (List ℕ) → Type 0) → KeepsPast tells clock image mid new → LeavesOnly clock image old mid P
       → LeavesOnly clock image mid new P → LeavesOnly clock image old new P
   leaves_on old mid new P past first second t b since until left = elim (cases_lt (clock mid) t) [
-      inl after ↦ second t b (omega (arith, after)) until left
+    | inl after ↦ second t b (omega (arith, after)) until left
     | inr early ↦ first t b since early (past.no_more t b early left)
-    ]
+  ]
 
   pub none_on : (old mid new : D) → KeepsPast tells clock image old mid → KeepsPast tells clock image mid new
       → AddsNone clock image old mid → AddsNone clock image mid new → AddsNone clock image old new

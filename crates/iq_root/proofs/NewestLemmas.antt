@@ -39,7 +39,7 @@ valid_parts slot body gate valid =
       gate_header = heads.1;
       same = eqb-true _ _ heads_and_same.1;
       from_one = leb-true _ _ bounds.0;
-      parity = eqb-true _ _ upto_parity.1
+      parity = eqb-true _ _ upto_parity.1;
     }
 
 -- a slot has no root, or an older one
@@ -71,17 +71,17 @@ newer_is None b root is = inr is
 newer_is (Some x) None root is = inl is
 newer_is (Some x) (Some y) root is = newer_of (nat_lt x.generation y.generation) x y root is
   where
-  newer_of : (v : Bool) (x y root : Root) → (if v then Some y else Some x) ≡ Some root → (Some x ≡ Some root) ⊎ (Some y ≡ Some root)
-  newer_of true x y root is = inr is
-  newer_of false x y root is = inl is
+    newer_of : (v : Bool) (x y root : Root) → (if v then Some y else Some x) ≡ Some root → (Some x ≡ Some root) ⊎ (Some y ≡ Some root)
+    newer_of true x y root is = inr is
+    newer_of false x y root is = inl is
 
 -- the newest root stands in the slot of its parity
 pub newest_slot : (blocks : List (List ℕ)) (root : Root) → newest blocks ≡ Some root
     → slot_root (root.generation % 2) blocks ≡ Some root
 newest_slot blocks root is = elim (newer_is (slot_root 0 blocks) (slot_root 1 blocks) root is) [
-    inl first ↦ ap (λ (s : ℕ). slot_root s blocks) (slot_parity 0 blocks root first) ∙ first
+  | inl first ↦ ap (λ (s : ℕ). slot_root s blocks) (slot_parity 0 blocks root first) ∙ first
   | inr second ↦ ap (λ (s : ℕ). slot_root s blocks) (slot_parity 1 blocks root second) ∙ second
-  ]
+]
 
 newer_last : (o : Option Root) (last : Root) → IsOlder o last.generation → newer o (Some last) ≡ Some last
 newer_last None last older = refl
@@ -121,8 +121,8 @@ pub closed_over_any : (b : List (List ℕ)) (s n : ℕ) → long_at (block_of b 
 closed_over_any b s n closed =
     if_older _ (root_of (block_of b (2 * s))) n
     (λ valid.
-      let parts : IsValid s (block_of b (2 * s)) (block_of b (2 * s + 1)) = valid_parts s _ _ valid in
-      absurd (omega (arith, closed, parts.same, parts.from_one)))
+    let parts : IsValid s (block_of b (2 * s)) (block_of b (2 * s + 1)) = valid_parts s _ _ valid in
+    absurd (omega (arith, closed, parts.same, parts.from_one)))
 
 -- a torn gate over the new body: the slot has no root or the new one
 pub torn_over_new : (b : List (List ℕ)) (s : ℕ) (root : Root) → root_of (block_of b (2 * s)) ≡ root

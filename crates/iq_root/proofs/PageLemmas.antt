@@ -70,8 +70,8 @@ one_more done bytes xs k within is =
 -- a body's page, by its tables
 pub body_of_tables : (root : Root) (ts : List ℕ) → ts ≡ root.tables
     → long_bytes root.generation ++ (bytes_of root.format ++ (bytes_of root.count ++ (bytes_of (length ts)
-      ++ (flat_map bytes_of ts ++ zeros (1008 - (20 + 4 * length ts)))))) ≡ body_page root
+    ++ (flat_map bytes_of ts ++ zeros (1008 - (20 + 4 * length ts)))))) ≡ body_page root
 body_of_tables root ts is =
     rw is
     (ap (λ (n : ℕ). long_bytes root.generation ++ (bytes_of root.format ++ (bytes_of root.count ++ (bytes_of (length root.tables)
-      ++ (flat_map bytes_of root.tables ++ zeros n))))) (omega arith))
+    ++ (flat_map bytes_of root.tables ++ zeros n))))) (omega arith))

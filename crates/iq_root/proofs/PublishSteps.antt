@@ -1,6 +1,6 @@
 -- The three steps of publishing: the gate is closed, the body is written, the gate is opened.
-use Rattle.std.specs.Prelude.{◌≡◌, ◌⊎◌, ℕ, ◌<◌, ◌≤◌, Bool, List, length, Option, Some, None, Result, Ok, Err, OnOk, slice_set}
-use Rattle.std.proofs.Common.{refl, sym, ap, subst, ◌∙◌, inl, inr, arith, length-set}
+use Rattle.std.specs.Prelude.{◌≡◌, ◌⊎◌, ℕ, ◌<◌, ◌≤◌, Bool, List, length, Option, Some, Result, Ok, Err, OnOk, slice_set}
+use Rattle.std.proofs.Common.{refl, sym, ap, subst, ◌∙◌, inl, inr, arith}
 use Rattle.iq_outside.specs.Devices.{KeepsPast, IsSettled, SameBut}
 use Rattle.iq_outside.proofs.ImageLemmas.{SameBut-set}
 use Rattle.iq_root.specs.Roots.{body_place, gate_place, body_block, gate_block, newest}
@@ -13,35 +13,21 @@ use Rattle.iq_root.proofs.PublishLemmas.{closed_blocks, body_blocks, closing, wr
 use Rattle.iq_root.proofs.StepLemmas.{told_once, kept_images, past_stays, rest_starts, rest_goes_on}
 use Rattle.iq_root.specs.declared.root.Root.{Root}
 
-none_or_some : (told : Option (List (List ℕ))) (a : List (List ℕ)) → told ≡ None → told ≡ Some a → ⊥
-none_or_some told a none some = cc
-
 module _ {D : Type 0} (blocks : D → Option (List (List ℕ))) (tells : D → Bool) (clock : D → ℕ) (image : D → ℕ → List (List ℕ) → Type 0) where
   pub kept_as : {T E : Type 0} (at : ℕ) (block other : List ℕ) (result : Result T E) (old new : D) → block ≡ other
       → HasKept blocks tells clock image at block result old new → HasKept blocks tells clock image at other result old new
   kept_as at block other result old new is kept = subst (λ (b : List ℕ). HasKept blocks tells clock image at b result old new) is kept
-
-  -- the number of blocks stays
-  long_by : {U E : Type 0} (at : ℕ) (block : List ℕ) (u : U) (old new : D) (told : Option (List (List ℕ))) → blocks old ≡ told
-      → HasKept {D = D} {T = U} {E = E} blocks tells clock image at block (Ok u) old new
-      → ((all : List (List ℕ)) → blocks old ≡ Some all → 4 ≤ length all) → (after : List (List ℕ)) → blocks new ≡ Some after → 4 ≤ length after
-  long_by at block u old new None is kept four after now = absurd (none_or_some (blocks new) after (kept.content.untold is) now)
-  long_by at block u old new (Some all) is kept four after now =
-      omega (arith, four all is, length-set all at block, ap length (told_once (blocks new) (slice_set all at block) after (kept.content.ok all is) now))
-
-  pub long_stays : {U E : Type 0} (at : ℕ) (block : List ℕ) (u : U) (old new : D)
-      → HasKept {D = D} {T = U} {E = E} blocks tells clock image at block (Ok u) old new
-      → ((all : List (List ℕ)) → blocks old ≡ Some all → 4 ≤ length all) → (after : List (List ℕ)) → blocks new ≡ Some after → 4 ≤ length after
-  long_stays at block u old new kept four after now = long_by at block u old new (blocks old) refl kept four after now
 
   -- the other blocks stay
   pub kept_others : {T E : Type 0} (slot at : ℕ) (block : List ℕ) (result : Result T E) (old new : D) (all : List (List ℕ))
       → (at ≡ body_place slot) ⊎ (at ≡ gate_place slot) → HasKept blocks tells clock image at block result old new
       → (before : List (List ℕ)) × (blocks old ≡ Some before) × SameButSlot slot all before
       → (after : List (List ℕ)) × (blocks new ≡ Some after) × SameButSlot slot all after
-  kept_others slot at block (Ok x) old new all within kept from =
-      (slice_set from.0 at block, kept.content.ok from.0 from.1,
-        slot_trans slot all from.0 (slice_set from.0 at block) from.2 (in_slot slot at from.0 (slice_set from.0 at block) within (SameBut-set at from.0 block)))
+  kept_others slot at block (Ok x) old new all within kept from = (
+    slice_set from.0 at block,
+    kept.content.ok from.0 from.1,
+    slot_trans slot all from.0 (slice_set from.0 at block) from.2 (in_slot slot at from.0 (slice_set from.0 at block) within (SameBut-set at from.0 block)),
+  )
   kept_others slot at block (Err e) old new all within kept from =
       let later = kept.content.err from.0 from.1 in
       (later.0, later.1, slot_trans slot all from.0 later.0 from.2 (in_slot slot at from.0 later.0 within later.2))
@@ -84,10 +70,10 @@ module _ {D : Type 0} (blocks : D → Option (List (List ℕ))) (tells : D → B
           let from = closes.since t b since until left in
           closing all last root follows four fits from.0 b (safe.settled from.0 from.1) from.2 (torn_of safe.torn)
         where
-        torn_of : (IsStale all last root ⊎ ((t : ℕ) (b : List (List ℕ)) → clock old ≤ t → t ≤ clock new → image new t b → IsGateWhole all root b))
-            → IsStale all last root ⊎ IsGateWhole all root b
-        torn_of (inl stale) = inl stale
-        torn_of (inr whole) = inr (whole t b since (omega (arith, until, past.later)) (past.keeps t b until left))
+          torn_of : (IsStale all last root ⊎ ((t : ℕ) (b : List (List ℕ)) → clock old ≤ t → t ≤ clock new → image new t b → IsGateWhole all root b))
+              → IsStale all last root ⊎ IsGateWhole all root b
+          torn_of (inl stale) = inl stale
+          torn_of (inr whole) = inr (whole t b since (omega (arith, until, past.later)) (past.keeps t b until left))
 
       pub any_first : {T E : Type 0} (r : Result T E) (old new : D) → Closes r old new
           → RootsAreSafe clock image all last root old new → LeavesOnly clock image old new (HasLastOrNew all last root)
@@ -98,7 +84,7 @@ module _ {D : Type 0} (blocks : D → Option (List (List ℕ))) (tells : D → B
       second_moments u r old mid new told closes writes t b since until left =
           writing all last root follows four fits b
           (kept_images blocks tells clock image _ _ r mid new (closed_blocks root all) writes closes.settled
-            (closes.content.ok all told) t b since until left)
+          (closes.content.ok all told) t b since until left)
 
       pub any_second : {U E T E' : Type 0} (u : U) (r : Result T E') (old mid new : D) → blocks old ≡ Some all → Closes {T = U} {E = E} (Ok u) old mid → Writes r mid new
           → RootsAreSafe clock image all last root old new → LeavesOnly clock image old new (HasLastOrNew all last root)
@@ -111,7 +97,7 @@ module _ {D : Type 0} (blocks : D → Option (List (List ℕ))) (tells : D → B
       third_moments u u' r old mid next new told closes writes opens t b since until left =
           opening all last root follows four fits b
           (kept_images blocks tells clock image _ _ r next new (body_blocks root all) opens writes.settled
-            (writes.content.ok _ (closes.content.ok all told)) t b since until left)
+          (writes.content.ok _ (closes.content.ok all told)) t b since until left)
 
       pub any_third : {U E U' E' T E'' : Type 0} (u : U) (u' : U') (r : Result T E'') (old mid next new : D) → blocks old ≡ Some all
           → Closes {T = U} {E = E} (Ok u) old mid → Writes {T = U'} {E = E'} (Ok u') mid next → Opens r next new
@@ -119,8 +105,8 @@ module _ {D : Type 0} (blocks : D → Option (List (List ℕ))) (tells : D → B
       any_third u u' r old mid next new told closes writes opens safe =
           leaves_on tells clock image old next new (HasLastOrNew all last root) opens.past
           (leaves_on tells clock image old mid next (HasLastOrNew all last root) writes.past
-            (first_moments (Ok u) old mid new closes (past_on tells clock image mid next new writes.past opens.past) safe)
-            (second_moments u (Ok u') old mid next told closes writes))
+          (first_moments (Ok u) old mid new closes (past_on tells clock image mid next new writes.past opens.past) safe)
+          (second_moments u (Ok u') old mid next told closes writes))
           (third_moments u u' r old mid next new told closes writes opens)
 
       -- what is read after an error

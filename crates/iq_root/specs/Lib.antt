@@ -3,3 +3,4 @@ pub mod Pages
 pub mod Causes
 pub mod Stops
 pub mod Publishing
+pub mod Formatting

@@ -10,11 +10,14 @@ use Rattle.iq_root.specs.declared.root.Root.{Root}
 abbrev pub slot_of : Root → ℕ
 slot_of root = root.generation % 2
 
+-- blocks with a root in a slot, and this generation in its gate
+abbrev pub with_slot : ℕ → Root → ℕ → List (List ℕ) → List (List ℕ)
+with_slot slot root generation all =
+    slice_set (slice_set all (body_place slot) (body_block slot root)) (gate_place slot) (gate_block slot generation)
+
 -- the blocks once a root is published
 abbrev pub published : Root → List (List ℕ) → List (List ℕ)
-published root all =
-    slice_set (slice_set all (body_place (slot_of root)) (body_block (slot_of root) root))
-    (gate_place (slot_of root)) (gate_block (slot_of root) root.generation)
+published root all = with_slot (slot_of root) root root.generation all
 
 -- a root follows the newest: it has the next generation, and a format that counts
 pub record Follows (all : List (List ℕ)) (last root : Root) : Type 0 where

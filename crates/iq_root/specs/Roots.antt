@@ -40,7 +40,7 @@ root_of body = record {
   generation = long_at body 16;
   format = number_at body 24;
   count = number_at body 28;
-  tables = numbers_at body 36 (number_at body 32)
+  tables = numbers_at body 36 (number_at body 32);
 }
 
 -- what a body may say in a slot: a generation from 1 on, below 2^63 and of the slot's parity, a format that counts, and at most

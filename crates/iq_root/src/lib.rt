@@ -6,12 +6,17 @@
 #![tactic(auto)]
 
 mod addresses;
+mod formatting;
 mod newest;
 mod pages;
 mod publishing;
 mod root;
+mod steps;
+#[cfg(test)]
+mod tests;
 
 pub use addresses::Addresses;
+pub use formatting::format;
 pub use newest::newest_root;
 pub use publishing::publish;
 pub use root::{Root, RootFault};

@@ -7,6 +7,7 @@ ghost use Rattle.iq_root.specs.Roots.{long_at, numbers_at, root_of, may_say, slo
 ghost use Rattle.iq_root.specs.Causes.{HasNoRoot, HasFault};
 
 use crate::pages::{BODY, GATE, long_at};
+use crate::steps::count_of;
 use crate::{Addresses, Root, RootFault};
 use iq_block_store::{BlockFault, number_at, read};
 use iq_outside::{Block, Device};
@@ -28,22 +29,6 @@ pub fn newest_root<D: Device>(disk: &mut D) -> Result<Root, RootFault>
     let first = slot_root(disk, count, 0)?;
     let second = slot_root(disk, count, 1)?;
     newer(first, second).ok_or(RootFault::NoRoot)
-}
-
-/// How many blocks there are.
-fn count_of<D: Device>(disk: &mut D) -> Result<u32, RootFault>
-    ensures looked { HasLooked D.blocks D.faults D.tells D.clock D.image disk.old disk.new }
-    ensures count { IfOk result (λ n. (all : List (List ℕ)) → D.blocks disk.old ≡ Some all → n ≡ length all) }
-    ensures cause { IfErr result (λ e. HasFault e (D.faults disk.old) (D.faults disk.new)) }
-{
-    let before = disk.faults();
-    match disk.count() {
-        Ok(count) => Ok(count),
-        Err(_) => {
-            let after = disk.faults();
-            Err(RootFault::StoreFault { before, after })
-        }
-    }
 }
 
 /// The root of a slot, if it is valid.

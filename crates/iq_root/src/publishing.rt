@@ -1,15 +1,14 @@
 //! Publishing a root behind a closed gate.
-ghost use Rattle.std.specs.Prelude.{◌≡◌, ◌⊎◌, ◌<◌, ◌≤◌, ℕ, List, Some, length, OnOk, OnErr, IfErr};
-ghost use Rattle.iq_outside.specs.Devices.{KeepsPast, IsSettled, HasSynced};
-ghost use Rattle.iq_block_store.specs.Frames.{framed};
+ghost use Rattle.std.specs.Prelude.{◌≡◌, ◌⊎◌, ◌≤◌, ℕ, List, Some, length, OnOk, IfErr};
+ghost use Rattle.iq_outside.specs.Devices.{KeepsPast, IsSettled};
 ghost use Rattle.iq_root.specs.Roots.{newest};
 ghost use Rattle.iq_root.specs.Stops.{SameButSlot, LeavesOnly, LeftButSlot};
-ghost use Rattle.iq_root.specs.Publishing.{slot_of, published, Follows, HasLastOrNew, IsStale, IsGateWhole, RootsAreSafe, HasKept};
+ghost use Rattle.iq_root.specs.Publishing.{slot_of, published, Follows, HasLastOrNew, IsStale, IsGateWhole, RootsAreSafe};
 ghost use Rattle.iq_root.specs.Causes.{HasFault};
 
 use crate::pages::{BODY, GATE, body_page, gate_page};
+use crate::steps::keep;
 use crate::{Root, RootFault};
-use iq_block_store::{BlockFault, Page, write};
 use iq_outside::Device;
 
 /// Publishes a root in the slot of its generation: closes the gate, writes the body, opens the gate, and syncs after each. The
@@ -48,36 +47,4 @@ pub fn publish<D: Device>(disk: &mut D, root: &Root) -> Result<(), RootFault>
     keep(disk, 2 * slot + 1, GATE, &gate_page(0))?;
     keep(disk, 2 * slot, BODY, &body)?;
     keep(disk, 2 * slot + 1, GATE, &gate_page(root.generation))
-}
-
-/// Writes a block and syncs.
-fn keep<D: Device>(disk: &mut D, at: u32, kind: u8, payload: &Page) -> Result<(), RootFault>
-    requires { (all : List (List ℕ)) → D.blocks disk.old ≡ Some all → at < length all }
-    ensures kept { HasKept D.blocks D.tells D.clock D.image
-        at (framed kind at 0 payload.now) result disk.old disk.new }
-    ensures cause { IfErr result (λ e. HasFault e (D.faults disk.old) (D.faults disk.new)) }
-    ensures later { D.faults disk.old ≤ D.faults disk.new }
-{
-    match write(disk, at, kind, 0, payload) {
-        Ok(()) => synced(disk),
-        Err(BlockFault::StoreFault { before, after }) => {
-            Err(RootFault::StoreFault { before, after })
-        }
-        Err(BlockFault::BadHeader { .. }) => unreachable!(),
-    }
-}
-
-/// Syncs.
-pub fn synced<D: Device>(disk: &mut D) -> Result<(), RootFault>
-    ensures synced { HasSynced D.blocks D.faults D.tells D.clock D.image result disk.old disk.new }
-    ensures cause { IfErr result (λ e. HasFault e (D.faults disk.old) (D.faults disk.new)) }
-{
-    let before = disk.faults();
-    match disk.sync() {
-        Ok(()) => Ok(()),
-        Err(_) => {
-            let after = disk.faults();
-            Err(RootFault::StoreFault { before, after })
-        }
-    }
 }

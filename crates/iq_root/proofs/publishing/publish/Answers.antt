@@ -3,20 +3,21 @@ use Rattle.iq_block_store.specs.Frames.{framed}
 use Rattle.iq_root.specs.Roots.{gate_kind, body_kind, gate_place, body_place}
 use Rattle.iq_root.specs.Publishing.{slot_of}
 use Rattle.iq_root.proofs.SlotLemmas.{slot_refl}
-use Rattle.iq_root.proofs.PublishSteps.{kept_as, long_stays, kept_others, left_first, left_second, left_third, any_first, any_second, any_third, halted_first, halted_second, halted_third, ends, comes}
+use Rattle.iq_root.proofs.StepLemmas.{stored_long}
+use Rattle.iq_root.proofs.PublishSteps.{kept_as, kept_others, left_first, left_second, left_third, any_first, any_second, any_third, halted_first, halted_second, halted_third, ends, comes}
 use Rattle.iq_root.proofs.publishing.publish.Goals as goal
 
 -- the number of blocks stays
 pub keep-requires-2 : goal.keep-requires-2
 keep-requires-2 g c =
     let closes = kept_as _ _ _ _ _ _ _ _ _ _ (ap (framed gate_kind (gate_place (slot_of c.args.root.now)) 0) c.gate_page.ensures) c.in_ok-keep.ensures.kept in
-    λ after told. omega (arith, long_stays _ _ _ _ _ _ _ _ _ closes c.requires after told)
+    λ after told. omega (arith, stored_long _ _ _ _ _ closes.content c.requires after told)
 
 pub keep-requires-3 : goal.keep-requires-3
 keep-requires-3 g c =
     let closes = kept_as _ _ _ _ _ _ _ _ _ _ (ap (framed gate_kind (gate_place (slot_of c.args.root.now)) 0) c.gate_page.ensures) c.in_ok-keep.ensures.kept in
     let writes = kept_as _ _ _ _ _ _ _ _ _ _ (ap (framed body_kind (body_place (slot_of c.args.root.now)) 0) c.body_page-body.ensures.page) c.in_ok-keep-2.ensures.kept in
-    λ after told. omega (arith, long_stays _ _ _ _ _ _ _ _ _ writes (long_stays _ _ _ _ _ _ _ _ _ closes c.requires) after told)
+    λ after told. omega (arith, stored_long _ _ _ _ _ writes.content (stored_long _ _ _ _ _ closes.content c.requires) after told)
 
 -- outside the slot, a stop leaves what one before could have left
 pub returns-in_err-keep-clause-left : goal.returns-in_err-keep-clause-left
@@ -44,7 +45,7 @@ returns-in_err-keep-2-clause-others g c =
     let writes = kept_as _ _ _ _ _ _ _ _ _ _ (ap (framed body_kind (body_place (slot_of c.args.root.now)) 0) c.body_page-body.ensures.page) c.keep-2.ensures.kept in
     let slot = slot_of c.args.root.now in
     λ all told. kept_others _ _ _ _ slot _ _ _ _ _ all (inl refl) writes
-      (kept_others _ _ _ _ slot _ _ _ _ _ all (inr refl) closes (all, told, slot_refl slot all))
+    (kept_others _ _ _ _ slot _ _ _ _ _ all (inr refl) closes (all, told, slot_refl slot all))
 
 pub returns-clause-others : goal.returns-clause-others
 returns-clause-others g c =
@@ -53,8 +54,8 @@ returns-clause-others g c =
     let opens = kept_as _ _ _ _ _ _ _ _ _ _ (ap (framed gate_kind (gate_place (slot_of c.args.root.now)) 0) c.gate_page-2.ensures) c.keep-3.ensures.kept in
     let slot = slot_of c.args.root.now in
     λ all told. kept_others _ _ _ _ slot _ _ _ _ _ all (inr refl) opens
-      (kept_others _ _ _ _ slot _ _ _ _ _ all (inl refl) writes
-        (kept_others _ _ _ _ slot _ _ _ _ _ all (inr refl) closes (all, told, slot_refl slot all)))
+    (kept_others _ _ _ _ slot _ _ _ _ _ all (inl refl) writes
+    (kept_others _ _ _ _ slot _ _ _ _ _ all (inr refl) closes (all, told, slot_refl slot all)))
 
 -- a stop leaves the last root or the new one
 pub returns-in_err-keep-clause-any_moment : goal.returns-in_err-keep-clause-any_moment
