@@ -1,5 +1,5 @@
 -- An empty store.
-use Rattle.std.specs.Prelude.{◌≡◌, ℕ, ◌-◌, ◌<◌, ◌≤◌, List, length, Option, Some, Result, Ok, Err, OnOk, replicate, take}
+use Rattle.std.specs.Prelude.{◌≡◌, ℕ, ◌-◌, ◌≤◌, List, length, Option, Some, Result, Ok, Err, OnOk, replicate, take}
 use Rattle.std.proofs.Common.{refl, ap, subst, ◌∙◌, inl, arith, length-append}
 use Rattle.std.proofs.lemmas.List.{length-take, length-replicate}
 use Rattle.iq_outside.specs.Devices.{block_of, Cut, resized, zero_block}

@@ -1,11 +1,11 @@
 -- Which root is the newest while another is published.
-use Rattle.std.specs.Prelude.{◌≡◌, ◌⊎◌, ℕ, ◌+◌, ◌-◌, ◌*◌, ◌%◌, ◌^◌, ◌<◌, ◌≤◌, Bool, true, false, ◌&&◌, List, [], length, Option, Some, None, nat_lt, nat_le, nat_eq, if◌then◌else◌}
+use Rattle.std.specs.Prelude.{◌≡◌, ◌⊎◌, ℕ, ◌+◌, ◌*◌, ◌%◌, ◌<◌, ◌≤◌, Bool, true, false, List, [], length, Option, Some, None, nat_lt, if◌then◌else◌}
 use Rattle.std.proofs.Common.{refl, sym, ap, subst, ◌∙◌, inl, inr, arith}
-use Rattle.std.proofs.lemmas.Bool.{lt-ltb, le-ltb, ltb-true, leb-true, eqb-true, and_parts}
+use Rattle.std.proofs.lemmas.Bool.{lt-ltb, le-ltb, leb-true, eqb-true, and_parts}
 use Rattle.iq_outside.specs.Devices.{block_of}
 use Rattle.std.proofs.lemmas.List.{get_or_past}
 use Rattle.iq_block_store.specs.Frames.{number_at, has_header, mark}
-use Rattle.iq_root.specs.Roots.{body_kind, gate_kind, long_at, root_of, may_say, is_valid, newer, newest, slot_root}
+use Rattle.iq_root.specs.Roots.{body_kind, gate_kind, long_at, root_of, is_valid, newer, newest, slot_root}
 use Rattle.iq_root.specs.declared.root.Root.{Root}
 
 -- past the end there is no block

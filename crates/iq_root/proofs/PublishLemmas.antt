@@ -1,18 +1,18 @@
 -- Which root is the newest while another is published.
-use Rattle.std.specs.Prelude.{◌≡◌, ◌≢◌, ◌⊎◌, ℕ, ◌+◌, ◌*◌, ◌%◌, ◌^◌, ◌<◌, ◌≤◌, Bool, true, false, List, [], length, Option, Some, None, slice_set, nat_lt, if◌then◌else◌}
+use Rattle.std.specs.Prelude.{◌≡◌, ◌≢◌, ◌⊎◌, ℕ, ◌+◌, ◌%◌, ◌<◌, ◌≤◌, Bool, true, false, List, [], length, Option, Some, None, slice_set, nat_lt, if◌then◌else◌}
 use Rattle.std.proofs.Common.{refl, sym, ap, subst, ◌∙◌, inl, inr, arith, length-set, get_or-set_same, get_or-set_other}
-use Rattle.std.proofs.lemmas.Bool.{cases_lt, cases_Bool, ltb-true, lt-ltb, and_parts}
+use Rattle.std.proofs.lemmas.Bool.{cases_lt, cases_Bool, ltb-true, lt-ltb}
 use Rattle.std.proofs.lemmas.List.{set-set, set_comm}
 use Rattle.std.proofs.lemmas.Nat.{mod_below}
 use Rattle.iq_outside.specs.Devices.{block_of, SameBut}
 use Rattle.iq_block_store.specs.Frames.{has_header}
-use Rattle.iq_root.specs.Roots.{body_kind, gate_kind, body_place, gate_place, long_at, root_of, is_valid, slot_root, newer, newest, body_block, gate_block}
+use Rattle.iq_root.specs.Roots.{gate_kind, body_place, gate_place, long_at, root_of, is_valid, slot_root, newer, newest, body_block, gate_block}
 use Rattle.iq_outside.proofs.ImageLemmas.{SameBut-set}
 use Rattle.iq_root.proofs.SlotLemmas.{in_slot, slot_trans}
 use Rattle.iq_root.specs.Pages.{RootFits}
 use Rattle.iq_root.specs.Stops.{SameButSlot}
 use Rattle.iq_root.specs.Publishing.{slot_of, with_slot, published, Follows, HasLastOrNew, IsStale, HasBody, IsGateWhole, SameRoots}
-use Rattle.iq_root.proofs.NewestLemmas.{IsValid, valid_parts, IsOlder, AreBoth, slot_parity, newest_slot, newest_over, if_older, torn_over_old, closed_over_any, torn_over_new}
+use Rattle.iq_root.proofs.NewestLemmas.{valid_parts, IsOlder, AreBoth, slot_parity, newest_slot, newest_over, if_older, torn_over_old, closed_over_any, torn_over_new}
 use Rattle.iq_root.proofs.BodyLemmas.{gate_tells, root_of_body, written_valid}
 use Rattle.iq_root.specs.declared.root.Root.{Root}
 

@@ -1,14 +1,14 @@
 -- The three steps of publishing: the gate is closed, the body is written, the gate is opened.
-use Rattle.std.specs.Prelude.{◌≡◌, ◌⊎◌, ℕ, ◌<◌, ◌≤◌, Bool, List, length, Option, Some, Result, Ok, Err, OnOk, slice_set}
+use Rattle.std.specs.Prelude.{◌≡◌, ◌⊎◌, ℕ, ◌≤◌, Bool, List, length, Option, Some, Result, Ok, Err, OnOk, slice_set}
 use Rattle.std.proofs.Common.{refl, sym, ap, subst, ◌∙◌, inl, inr, arith}
-use Rattle.iq_outside.specs.Devices.{KeepsPast, IsSettled, SameBut}
+use Rattle.iq_outside.specs.Devices.{KeepsPast, SameBut}
 use Rattle.iq_outside.proofs.ImageLemmas.{SameBut-set}
 use Rattle.iq_root.specs.Roots.{body_place, gate_place, body_block, gate_block, newest}
 use Rattle.iq_root.specs.Pages.{RootFits}
 use Rattle.iq_root.specs.Stops.{SameButSlot, LeavesOnly, LeftButSlot}
-use Rattle.iq_root.specs.Publishing.{slot_of, published, Follows, HasLastOrNew, IsStale, IsGateWhole, SameRoots, RootsAreSafe, HasKept}
+use Rattle.iq_root.specs.Publishing.{slot_of, published, Follows, HasLastOrNew, IsStale, IsGateWhole, RootsAreSafe, HasKept}
 use Rattle.iq_root.proofs.MomentLemmas.{past_on, leaves_on}
-use Rattle.iq_root.proofs.SlotLemmas.{slot_refl, slot_trans, in_slot}
+use Rattle.iq_root.proofs.SlotLemmas.{slot_trans, in_slot}
 use Rattle.iq_root.proofs.PublishLemmas.{closed_blocks, body_blocks, closing, writing, opening, opened, published_newest, published_leaves}
 use Rattle.iq_root.proofs.StepLemmas.{told_once, kept_images, past_stays, rest_starts, rest_goes_on}
 use Rattle.iq_root.specs.declared.root.Root.{Root}

@@ -1,5 +1,5 @@
 -- What a block that is written and synced leaves of a device.
-use Rattle.std.specs.Prelude.{◌≡◌, ◌⊎◌, ℕ, ◌<◌, ◌≤◌, Bool, List, length, Option, Some, None, Result, Ok, Err, OnOk, OnErr, slice_set}
+use Rattle.std.specs.Prelude.{◌≡◌, ◌⊎◌, ℕ, ◌≤◌, Bool, List, length, Option, Some, None, Result, Ok, Err, OnOk, OnErr, slice_set}
 use Rattle.std.proofs.Common.{refl, ap, subst, ◌∙◌, arith, length-set}
 use Rattle.iq_outside.specs.Devices.{KeepsPast, IsSettled, SameBut, HasWritten, HasSynced, Stored, Cut, resized}
 use Rattle.iq_outside.proofs.ImageLemmas.{SameBut-set}

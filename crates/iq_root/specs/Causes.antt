@@ -2,7 +2,6 @@
 use Rattle.std.specs.Prelude.{◌≡◌, ℕ, List, Option, Some, None}
 use Rattle.iq_outside.specs.Faults.{RoseWithin}
 use Rattle.iq_root.specs.Roots.{newest}
-use Rattle.iq_root.specs.declared.root.Root.{Root}
 use Rattle.iq_root.specs.declared.root.RootFault.{RootFault}
 use Rattle.iq_root.specs.declared.root.RootFault.TheVariants.{StoreFault, NoRoot}
 

@@ -1,5 +1,5 @@
 -- What publishing a root does, also where a stop cuts it short.
-use Rattle.std.specs.Prelude.{◌≡◌, ◌≢◌, ◌⊎◌, ℕ, ◌+◌, ◌*◌, ◌%◌, ◌^◌, ◌<◌, ◌≤◌, Bool, true, false, List, length, Option, Some, Result, OnOk, slice_set}
+use Rattle.std.specs.Prelude.{◌≡◌, ◌⊎◌, ℕ, ◌+◌, ◌%◌, ◌^◌, ◌<◌, ◌≤◌, Bool, true, false, List, length, Option, Some, Result, OnOk, slice_set}
 use Rattle.iq_outside.specs.Devices.{block_of, KeepsPast, AddsAt, IsSettled, Stored}
 use Rattle.iq_block_store.specs.Frames.{has_header}
 use Rattle.iq_root.specs.Roots.{body_kind, gate_kind, least_format, most_format, body_place, gate_place, long_at, newest, body_block, gate_block}

@@ -1,4 +1,4 @@
-use Rattle.std.proofs.Common.{sym, ap, arith}
+use Rattle.std.proofs.Common.{sym, arith}
 use Rattle.iq_root.proofs.NewestLemmas.{no_header_past}
 use Rattle.iq_root.proofs.newest.fetched.Goals as goal
 

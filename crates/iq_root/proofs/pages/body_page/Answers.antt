@@ -1,8 +1,5 @@
-use Rattle.std.proofs.Common.{◌∙◌, ◌+◌, ◌-◌, ◌*◌, ◌++◌, ap, refl, arith, length, List, ℕ, []}
-use Rattle.std.specs.Prelude.{flat_map}
-use Rattle.iq_block_store.specs.Frames.{bytes_of}
+use Rattle.std.proofs.Common.{◌∙◌, ap, refl, arith, length, []}
 use Rattle.iq_block_store.proofs.FrameLemmas.{length-bytes_of}
-use Rattle.iq_root.specs.Roots.{zeros}
 use Rattle.iq_root.proofs.BodyLemmas.{length-long_bytes}
 use Rattle.iq_root.proofs.PageLemmas.{IsDone-at, joined, body_of_tables}
 use Rattle.iq_root.proofs.pages.body_page.Goals as goal
