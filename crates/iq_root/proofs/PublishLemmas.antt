@@ -126,12 +126,12 @@ older_beside s o all last (inr is) newest_is there =
 
 other_torn : (s o : ℕ) (all c b : List (List ℕ)) → AreBoth s o → SameRoots all c → SameBut (gate_place s) c b → SameSlot o all b
 other_torn s o all c b (inl is) roots torn = record {
-  body = torn.others (body_place o) (omega (arith, is.0, is.1)) ∙ roots.roots (body_place o) (omega (arith, is.1));
-  gate = torn.others (gate_place o) (omega (arith, is.0, is.1)) ∙ roots.roots (gate_place o) (omega (arith, is.1));
+  body = torn.others (body_place o) (omega (arith, is.0, is.1)) ∙ roots (body_place o) (omega (arith, is.1));
+  gate = torn.others (gate_place o) (omega (arith, is.0, is.1)) ∙ roots (gate_place o) (omega (arith, is.1));
 }
 other_torn s o all c b (inr is) roots torn = record {
-  body = torn.others (body_place o) (omega (arith, is.0, is.1)) ∙ roots.roots (body_place o) (omega (arith, is.1));
-  gate = torn.others (gate_place o) (omega (arith, is.0, is.1)) ∙ roots.roots (gate_place o) (omega (arith, is.1));
+  body = torn.others (body_place o) (omega (arith, is.0, is.1)) ∙ roots (body_place o) (omega (arith, is.1));
+  gate = torn.others (gate_place o) (omega (arith, is.0, is.1)) ∙ roots (gate_place o) (omega (arith, is.1));
 }
 
 true_false : (v : Bool) → v ≡ true → v ≡ false → ⊥
@@ -194,7 +194,7 @@ module _ (all : List (List ℕ)) (last root : Root) (follows : Follows all last 
       → IsStale all last root ⊎ IsGateWhole all root b → HasLastOrNew all last root b
   closing c b roots torn safe =
       let body : block_of b (body_place (slot_of root)) ≡ block_of all (body_place (slot_of root))
-      = torn.others (body_place (slot_of root)) (omega arith) ∙ roots.roots (body_place (slot_of root)) (omega (arith, two)) in
+      = torn.others (body_place (slot_of root)) (omega arith) ∙ roots (body_place (slot_of root)) (omega (arith, two)) in
       let same : SameSlot (slot_of last) all b = other_torn (slot_of root) (slot_of last) all c b both roots torn in
       elim safe [
         | inl stale ↦ inl (last_stays b same (torn_over_old b (slot_of root) last.generation (block_of all (body_place (slot_of root))) body stale))

@@ -114,7 +114,7 @@ module _ {D : Type 0} (blocks : D → Option (List (List ℕ))) (tells : D → B
           → IsStale all last root ⊎ IsGateWhole all root after → HasLastOrNew all last root after
       halted_first e old new after told closes now safe =
           let from = closes.content.err all told in
-          closing all last root follows four fits all after (record { size = refl; roots = λ i low. refl })
+          closing all last root follows four fits all after (λ i low. refl)
           (subst (λ (b : List (List ℕ)). SameBut (gate_place (slot_of root)) all b) (told_once (blocks new) from.0 after from.1 now) from.2) safe
 
       pub halted_second : {U E T E' : Type 0} (u : U) (e : E') (old mid new : D) (after : List (List ℕ)) → blocks old ≡ Some all

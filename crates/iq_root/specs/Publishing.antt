@@ -1,5 +1,5 @@
 -- What publishing a root does, also where a stop cuts it short.
-use Rattle.std.specs.Prelude.{◌≡◌, ◌⊎◌, ℕ, ◌+◌, ◌%◌, ◌^◌, ◌<◌, ◌≤◌, Bool, true, false, List, length, Option, Some, Result, OnOk, slice_set}
+use Rattle.std.specs.Prelude.{◌≡◌, ◌⊎◌, ℕ, ◌+◌, ◌%◌, ◌^◌, ◌<◌, ◌≤◌, Bool, true, false, List, Option, Some, Result, OnOk, slice_set}
 use Rattle.iq_outside.specs.Devices.{block_of, KeepsPast, AddsAt, IsSettled, Stored}
 use Rattle.iq_block_store.specs.Frames.{has_header}
 use Rattle.iq_root.specs.Roots.{body_kind, gate_kind, least_format, most_format, body_place, gate_place, long_at, newest, body_block, gate_block}
@@ -50,10 +50,9 @@ IsGateWhole all root b =
     ⊎ ((has_header gate_kind (gate_place (slot_of root)) (block_of b (gate_place (slot_of root))) ≡ false)
     ⊎ HasBody all root b))
 
--- the four blocks of roots, and the number of blocks, are the same
-pub record SameRoots (all b : List (List ℕ)) : Type 0 where
-  pub size : length b ≡ length all
-  pub roots : (i : ℕ) → i < 4 → block_of b i ≡ block_of all i
+-- the four blocks of roots are the same
+abbrev pub SameRoots : List (List ℕ) → List (List ℕ) → Type 0
+SameRoots all b = (i : ℕ) → i < 4 → block_of b i ≡ block_of all i
 
 -- What a promise over stops takes for granted of the blocks of roots. No write to them waits for a sync; and the body in the slot to
 -- be written is stale, or else a gate that a write or a stop tears is whole or has no right header.
