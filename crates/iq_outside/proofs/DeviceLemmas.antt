@@ -1,5 +1,5 @@
 -- What the calls of a device with a record of its changes did.
-use Rattle.std.specs.Prelude.{◌≡◌, ◌⊎◌, ℕ, ◌+◌, ◌-◌, ◌^◌, ◌<◌, ◌≤◌, min, Bool, true, false, List, length, take, slice_set, Option, Some, Result, Ok, Err, OnOk, OnErr, is_err}
+use Rattle.std.specs.Prelude.{◌≡◌, ◌⊎◌, ℕ, ◌+◌, ◌-◌, ◌^◌, ◌<◌, ◌≤◌, min, Bool, true, false, List, length, take, slice_set, Option, Some, None, Result, Ok, Err, OnOk, OnErr, is_err}
 use Rattle.std.proofs.Common.{refl, sym, ap, ◌∙◌, inl, inr, arith}
 use Rattle.std.proofs.lemmas.List.{take_all}
 use Rattle.iq_outside.specs.Faults.{CountsFaults, HasRisen}
@@ -31,6 +31,9 @@ counts_both (Err e) before between now first next risen = record {
 told_blocks : (a b : List (List ℕ)) → Some a ≡ Some b → a ≡ b
 told_blocks a b told = cc
 
+some_never_none : (a : List (List ℕ)) (told : Option (List (List ℕ))) → Some a ≡ None → told ≡ None
+some_never_none a told never = cc
+
 pub has_written : {D T E U F : Type 0} (kept : D → Recording) (faults : D → ℕ) (at : ℕ) (block : List ℕ) (inner : Result U F)
     (result : Result T E) (old new : D) → is_err result ≡ is_err inner
     → OnOk inner ((kept new).blocks ≡ slice_set (kept old).blocks at block)
@@ -41,6 +44,7 @@ has_written kept faults at block (Ok u) (Ok t) old new variant set adds same wit
   content = record {
     ok = λ blocks told. ap Some (set ∙ ap (λ (bs : List (List ℕ)). slice_set bs at block) (told_blocks _ _ told));
     err = λ blocks told. tt;
+    untold = some_never_none _ _;
   };
   counts = counts;
   past = adds_keeps kept (Wrote at (block_of (kept old).blocks at)) old new adds;
@@ -53,6 +57,7 @@ has_written kept faults at block (Err f) (Err e) old new variant set adds same w
   content = record {
     ok = λ blocks told. tt;
     err = λ blocks told. (blocks, ap (λ (r : Recording). Some r.blocks) same ∙ told, SameBut-refl at blocks);
+    untold = some_never_none _ _;
   };
   counts = counts;
   past = unmoved_keeps kept old new same;
@@ -93,6 +98,7 @@ has_resized kept faults n (Ok u) (Ok t) old new variant cut adds same counts = r
   content = record {
     ok = λ blocks told. ap Some (cut ∙ ap (resized n) (told_blocks _ _ told));
     err = λ blocks told. tt;
+    untold = some_never_none _ _;
   };
   counts = counts;
   past = adds_keeps kept (Resized (length (kept old).blocks) adds.0) old new adds.1;
@@ -104,6 +110,7 @@ has_resized kept faults n (Err f) (Err e) old new variant cut adds same counts =
   content = record {
     ok = λ blocks told. tt;
     err = λ blocks told. (blocks, ap (λ (r : Recording). Some r.blocks) same ∙ told, ap (take n) (take_all (length blocks) blocks (omega arith)));
+    untold = some_never_none _ _;
   };
   counts = counts;
   past = unmoved_keeps kept old new same;

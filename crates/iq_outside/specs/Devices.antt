@@ -1,6 +1,6 @@
 -- What one call of a device did, as its caller sees it. A device is seen by five members: its blocks where it tells them, its
 -- count of faults, whether it tells what a stop may leave, the present moment, and what a stop at a moment may have left.
-use Rattle.std.specs.Prelude.{◌≡◌, ◌≢◌, ◌⊎◌, ℕ, ◌+◌, ◌-◌, ◌<◌, ◌≤◌, Bool, IsTrue, List, [], ◌++◌, length, take, Option, Some, Result, OnOk, OnErr, IfOk, replicate, slice_index_or, slice_set}
+use Rattle.std.specs.Prelude.{◌≡◌, ◌≢◌, ◌⊎◌, ℕ, ◌+◌, ◌-◌, ◌<◌, ◌≤◌, Bool, IsTrue, List, [], ◌++◌, length, take, Option, Some, None, Result, OnOk, OnErr, IfOk, replicate, slice_index_or, slice_set}
 use Rattle.iq_outside.specs.Faults.{CountsFaults}
 
 -- a block of zeros
@@ -26,21 +26,25 @@ pub record Fetched {T E : Type 0} (at : ℕ) (into : List ℕ) (result : Result 
   pub told : (blocks : List (List ℕ)) → old ≡ Some blocks → OnOk result (into ≡ block_of blocks at)
   pub unchanged : new ≡ old
 
--- a write: at Ok this block is in its place, at Failed any bytes may be there, and the others stay
+-- a write: at Ok this block is in its place, at Failed any bytes may be there, and the others stay; a device that doesn't tell its
+-- blocks goes on so
 pub record Stored {T E : Type 0} (at : ℕ) (block : List ℕ) (result : Result T E) (old new : Option (List (List ℕ))) : Type 0 where
   pub ok : (blocks : List (List ℕ)) → old ≡ Some blocks → OnOk result (new ≡ Some (slice_set blocks at block))
   pub err : (blocks : List (List ℕ)) → old ≡ Some blocks
       → OnErr result ((after : List (List ℕ)) × (new ≡ Some after) × SameBut at blocks after)
+  pub untold : old ≡ None → new ≡ None
 
 -- the first so many blocks, and then blocks of zeros
 abbrev pub resized : ℕ → List (List ℕ) → List (List ℕ)
 resized n blocks = take n blocks ++ replicate (n - length blocks) zero_block
 
--- a change of the number of blocks: at Failed the blocks that both lists would have stay
+-- a change of the number of blocks: at Failed the blocks that both lists would have stay; a device that doesn't tell its blocks
+-- goes on so
 pub record Cut {T E : Type 0} (n : ℕ) (result : Result T E) (old new : Option (List (List ℕ))) : Type 0 where
   pub ok : (blocks : List (List ℕ)) → old ≡ Some blocks → OnOk result (new ≡ Some (resized n blocks))
   pub err : (blocks : List (List ℕ)) → old ≡ Some blocks
       → OnErr result ((after : List (List ℕ)) × (new ≡ Some after) × (take n (take (length blocks) after) ≡ take n blocks))
+  pub untold : old ≡ None → new ≡ None
 
 -- Time goes on: the present moment never falls, and what a stop at an earlier one may have left stays the same.
 pub record KeepsPast {D : Type 0} (tells : D → Bool) (clock : D → ℕ) (image : D → ℕ → List (List ℕ) → Type 0) (old new : D) : Type 0 where
