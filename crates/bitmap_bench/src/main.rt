@@ -9,9 +9,8 @@ ghost use Rattle.std.specs.Prelude.{◌<◌};
 use iq_base::NoMemory;
 use iq_bitmap::Bitmap;
 use std::alloc::Global;
-use std::env;
-use std::io;
 use std::time::{CpuClock, Duration};
+use std::{env, io};
 
 /// How many rows a bitmap has: the most that the benchmark's tables have.
 const ROWS: u32 = 2_097_152;
@@ -69,7 +68,11 @@ fn time_count<R: CpuClock + Print>(rt: &R, bitmap: &mut Bitmap) -> io::Result<()
     println!(rt; "count {time} ({total})")
 }
 
-fn time_load<R: CpuClock + Print>(rt: &R, bitmap: &mut Bitmap, page: &[u8; 1008]) -> io::Result<()> {
+fn time_load<R: CpuClock + Print>(
+    rt: &R,
+    bitmap: &mut Bitmap,
+    page: &[u8; 1008],
+) -> io::Result<()> {
     let from = rt.thread_cpu_time()?;
     for _ in 0..ROUNDS {
         for chunk in 0..CHUNKS {
@@ -82,7 +85,11 @@ fn time_load<R: CpuClock + Print>(rt: &R, bitmap: &mut Bitmap, page: &[u8; 1008]
     println!(rt; "load_page {time}")
 }
 
-fn time_store<R: CpuClock + Print>(rt: &R, bitmap: &Bitmap, page: &mut [u8; 1008]) -> io::Result<()> {
+fn time_store<R: CpuClock + Print>(
+    rt: &R,
+    bitmap: &Bitmap,
+    page: &mut [u8; 1008],
+) -> io::Result<()> {
     let from = rt.thread_cpu_time()?;
     for _ in 0..ROUNDS {
         for chunk in 0..CHUNKS {

@@ -106,14 +106,14 @@ get_or-with_chunk_out chunk_at rows bits i long (inr high) = get_or-put_chunk_ab
 pub with_chunk-chunk_of : (chunk_at : ℕ) (rows : List Bool) → with_chunk chunk_at rows (chunk_of chunk_at rows) ≡ rows
 with_chunk-chunk_of chunk_at rows =
     ext_get_or false (with_chunk chunk_at rows (chunk_of chunk_at rows)) rows (length-with_chunk chunk_at rows (chunk_of chunk_at rows))
-      (λ i h. let within : i < length rows = omega (arith, length-with_chunk chunk_at rows (chunk_of chunk_at rows)) in
-        elim (cases_lt i (chunk_at * 8064)) [
-          inl low ↦ get_or-with_chunk_out chunk_at rows (chunk_of chunk_at rows) i (length-chunk_of chunk_at rows) (inl low)
-        | inr on ↦ elim (cases_lt i (chunk_at * 8064 + 8064)) [
-            inl inside ↦
-              let place : chunk_at * 8064 + (i - chunk_at * 8064) ≡ i = omega arith in
-              get_or-with_chunk_in chunk_at rows (chunk_of chunk_at rows) i (length-chunk_of chunk_at rows) on inside within
-              ∙ get_or-chunk_of chunk_at rows (i - chunk_at * 8064) (omega arith) ∙ ap (λ (k : ℕ). get_or rows k false) place
-          | inr above ↦ get_or-with_chunk_out chunk_at rows (chunk_of chunk_at rows) i (length-chunk_of chunk_at rows) (inr above)
-          ]
-        ])
+    (λ i h. let within : i < length rows = omega (arith, length-with_chunk chunk_at rows (chunk_of chunk_at rows)) in
+    elim (cases_lt i (chunk_at * 8064)) [
+      | inl low ↦ get_or-with_chunk_out chunk_at rows (chunk_of chunk_at rows) i (length-chunk_of chunk_at rows) (inl low)
+      | inr on ↦ elim (cases_lt i (chunk_at * 8064 + 8064)) [
+        | inl inside ↦
+            let place : chunk_at * 8064 + (i - chunk_at * 8064) ≡ i = omega arith in
+            get_or-with_chunk_in chunk_at rows (chunk_of chunk_at rows) i (length-chunk_of chunk_at rows) on inside within
+            ∙ get_or-chunk_of chunk_at rows (i - chunk_at * 8064) (omega arith) ∙ ap (λ (k : ℕ). get_or rows k false) place
+        | inr above ↦ get_or-with_chunk_out chunk_at rows (chunk_of chunk_at rows) i (length-chunk_of chunk_at rows) (inr above)
+      ]
+    ])

@@ -92,7 +92,10 @@ fn two_bitmaps_combine_as_their_lists_do(rt: HostRuntime) -> Result<(), NoMemory
         assert!(rt; is_same(&kept, &either), "either of {len}");
         let mut kept = bitmap.copied()?;
         kept.without(&other);
-        assert!(rt; is_same(&kept, &rest), "the first without the second of {len}");
+        assert!(rt;
+            is_same(&kept, &rest),
+            "the first without the second of {len}"
+        );
     }
     Ok(())
 }
@@ -120,7 +123,10 @@ fn pages_keep_chunks_and_no_bit_past_the_length(rt: HostRuntime) -> Result<(), N
         let bitmap = bitmap_of(rt.alloc(), len, &bits)?;
         let mut loaded = Bitmap::full(rt.alloc(), len)?;
         let mut filled = Bitmap::empty(rt.alloc(), len)?;
-        assert!(rt; loaded.count() == len && filled.is_empty(), "{len} rows, all and none");
+        assert!(rt;
+            loaded.count() == len && filled.is_empty(),
+            "{len} rows, all and none"
+        );
         for chunk in 0..33u32 {
             let first = chunk * CHUNK;
             if first < bitmap.len() && first < loaded.len() && first < filled.len() {
