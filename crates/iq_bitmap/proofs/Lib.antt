@@ -1,4 +1,5 @@
 pub mod Lanes
+pub mod LaneSums
 pub mod BitLists
 pub mod OneBit
 pub mod Combined

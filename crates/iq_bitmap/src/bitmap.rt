@@ -7,7 +7,7 @@ ghost use Rattle.iq_bitmap.specs.Bits.{both, either, difference, IsNextSet, HasN
 use crate::gates::{self, And, Gate, Or, Without};
 use crate::page_words::{self, PAGE_WORDS};
 use crate::rows::Rows;
-use crate::words;
+use crate::{ones, words};
 use iq_base::{NoMemory, Page};
 use std::alloc::Global;
 use std::marker::Model;
@@ -124,7 +124,7 @@ impl Bitmap {
     pub fn count(&self) -> u32
         ensures { result ≡ count_by (λ on. on) self.now }
     {
-        words::ones_of(&self.words) as u32
+        ones::ones_of(&self.words) as u32
     }
 
     /// The first row that is set, from a row on. It costs a step for each 64 rows that it passes.

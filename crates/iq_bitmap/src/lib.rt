@@ -7,6 +7,7 @@
 
 mod bitmap;
 mod gates;
+mod ones;
 mod page_words;
 mod rows;
 #[cfg(test)]

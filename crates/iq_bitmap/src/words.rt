@@ -1,5 +1,5 @@
 //! The bits of a list of words of 64 bits, the least bit of the first word first.
-ghost use Rattle.std.specs.Prelude.{◌≡◌, ◌≢◌, ◌==◌, ◌+◌, ◌*◌, ◌^◌, ◌<◌, ◌≤◌, ℕ, true, length, count_ones, sum_by, slice_index, IfSome, IfNone};
+ghost use Rattle.std.specs.Prelude.{◌≡◌, ◌≢◌, ◌==◌, ◌+◌, ◌*◌, ◌^◌, ◌<◌, ◌≤◌, ℕ, true, length, IfSome, IfNone};
 ghost use Rattle.std.specs.Int.{bit_at};
 ghost use Rattle.iq_bitmap.specs.Bits.{bit_of};
 ghost use Rattle.iq_bitmap.specs.Words.{IsFirstBit, HasNoBitFrom, IsFilled};
@@ -37,15 +37,6 @@ fn fill_words(words: &mut [u64], whole: usize)
     for k in 0..whole {
         words[k] = u64::MAX;
     }
-}
-
-/// How many bits are set.
-pub fn ones_of(words: &[u64]) -> usize
-    requires { length words.now < 2 ^ 50 }
-    ensures value { result ≡ sum_by count_ones words.now }
-    ensures fit { (k : ℕ) → slice_index words.now k < 2 ^ 64 }
-{
-    words.iter().map(|word| word.count_ones() as usize).sum()
 }
 
 /// The place of the first bit that is set, from a place on. It costs a step for each word that it passes.
