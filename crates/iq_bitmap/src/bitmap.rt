@@ -36,7 +36,8 @@ impl Model for Bitmap {
 }
 
 impl Bitmap {
-    /// A bitmap of `len` rows of which none is set. It is the one call that takes memory: a word for each 64 rows.
+    /// A bitmap of `len` rows of which none is set. It takes memory, a word for each 64 rows, as `full` and `copied` do; no other
+    /// call takes any.
     pub fn empty(alloc: Global, len: u32) -> Result<Bitmap, NoMemory>
         ensures { IfOk result (λ b. b ≡ replicate len false) }
     {
@@ -45,7 +46,7 @@ impl Bitmap {
         Ok(Bitmap { words, len })
     }
 
-    /// A bitmap of `len` rows of which each is set. It takes memory as `empty` does.
+    /// A bitmap of `len` rows of which each is set.
     pub fn full(alloc: Global, len: u32) -> Result<Bitmap, NoMemory>
         ensures { IfOk result (λ b. b ≡ replicate len true) }
     {
@@ -167,7 +168,7 @@ impl Bitmap {
         page_words::store_words(&self.words, chunk as usize * PAGE_WORDS, into);
     }
 
-    /// Whether no row is set: the bitmap is as `empty` makes it. It costs as much as `next`.
+    /// Whether no row is set: the bitmap is as `empty` makes it, whatever its length. It costs as much as `next`.
     pub fn is_empty(&self) -> bool
         ensures { IsTrue result ↔ (self.now ≡ replicate (length self.now) false) }
     {
