@@ -1,19 +1,19 @@
 -- What an object reaches, part by part.
-use Rattle.std.specs.Prelude.{◌≡◌, ◌⊎◌, ℕ, zero, suc, ◌+◌, ◌-◌, ◌*◌, ◌/◌, ◌%◌, ◌<◌, ◌≤◌, min, Bool, true, false, ◌&&◌, List, [], ◌∷◌, ◌++◌, length, take, drop, map, nat_eq, nat_lt, slice_index, slice_index_or, if◌then◌else◌, Result, Ok, Err, Option, Some, None}
+use Rattle.std.specs.Prelude.{◌≡◌, ℕ, zero, suc, ◌+◌, ◌-◌, ◌<◌, ◌≤◌, min, Bool, true, false, ◌&&◌, List, [], ◌∷◌, ◌++◌, length, map, slice_index, slice_index_or, if◌then◌else◌, Result, Ok, Err, Some, None}
 use Rattle.std.specs.List.{All, list_all}
 use Rattle.std.proofs.Common.{refl, sym, ap, subst, ◌∙◌, inl, inr, arith, length-append}
-use Rattle.std.proofs.lemmas.List.{get_or_append_left, get_or-append_right, get_or-take, get_or-drop}
-use Rattle.std.proofs.lemmas.Bool.{and_parts, cases_lt}
+use Rattle.std.proofs.lemmas.List.{get_or_append_left, get_or-append_right}
+use Rattle.std.proofs.lemmas.Bool.{cases_lt}
 use Rattle.iq_outside.specs.Devices.{block_of}
 use Rattle.iq_block_store.specs.Frames.{has_header, payload_of}
 use Rattle.iq_block_map.specs.declared.refs.Ref.{Ref}
 use Rattle.iq_block_map.specs.Maps.{page_kind}
-use Rattle.iq_block_map.specs.Objects.{leaf_count, used_in, map_at, leaves_of, listed, listed_in, joined, front, top_of, walked, address_of, addresses_of, blocks_of, contents, pages_of}
+use Rattle.iq_block_map.specs.Objects.{leaf_count, map_at, leaves_of, listed, listed_in, joined, top_of, walked, address_of, addresses_of, blocks_of, contents}
 use Rattle.iq_block_map.specs.Writing.{holds}
 use Rattle.iq_block_map.specs.Editing.{AreApart}
 use Rattle.iq_block_map.specs.Laws.{SameOn, SameObject}
 use Rattle.iq_block_map.proofs.StepLemmas.{listed_same, map_same, both_parts, ok_is}
-use Rattle.iq_block_map.proofs.TopLemmas.{leaves_one, leaves_many, leaves_none, top_one, listed_from, addresses_from, leaves_count, addresses_count}
+use Rattle.iq_block_map.proofs.TopLemmas.{leaves_one, leaves_many, leaves_none, top_one, addresses_from, addresses_count}
 use Rattle.iq_block_map.proofs.ReachLemmas.{address_at}
 
 all_front : (P : ℕ → Type 0) (xs ys : List ℕ) → All P (xs ++ ys) → All P xs
@@ -23,7 +23,7 @@ all_front P xs ys each k d within =
 all_back : (P : ℕ → Type 0) (xs ys : List ℕ) → All P (xs ++ ys) → All P ys
 all_back P xs ys each k d within =
     let at : slice_index_or (xs ++ ys) (length xs + k) d ≡ slice_index_or ys k d
-      = get_or-append_right xs ys (length xs) (length xs + k) d refl (omega arith) ∙ ap (λ (n : ℕ). slice_index_or ys n d) (omega arith) in
+    = get_or-append_right xs ys (length xs) (length xs + k) d refl (omega arith) ∙ ap (λ (n : ℕ). slice_index_or ys n d) (omega arith) in
     subst P at (each (length xs + k) d (omega (arith, within, length-append xs ys)))
 
 all_cons : (P : ℕ → Type 0) (x : ℕ) (xs : List ℕ) → P x → All P xs → All P (x ∷ xs)
@@ -62,8 +62,8 @@ parts_of P all pages (l ∷ ls) bs is each =
       leaves = all_cons P l ls (leaf 0 0 (omega arith)) rest.leaves;
       xs = first.1 ++ rest.xs;
       named =
-        ap (λ (r : Result (List ℕ) ℕ). joined (joined (Ok []) r) (listed false all (pages - 252) ls)) first.3
-        ∙ ap (joined (Ok first.1)) rest.named;
+          ap (λ (r : Result (List ℕ) ℕ). joined (joined (Ok []) r) (listed false all (pages - 252) ls)) first.3
+          ∙ ap (joined (Ok first.1)) rest.named;
       pages_of_them = all_both P first.1 rest.xs named rest.pages_of_them;
     }
 
@@ -84,28 +84,28 @@ object_parts P all object bs is each =
     let here : All P (parts.0 ++ parts.1) = subst (All P) parts.4 each in
     go (leaves_of all object) refl (subst (All P) (sym top) (all_front P parts.0 parts.1 here)) parts.1 parts.3 (all_back P parts.0 parts.1 here)
   where
-  go : (r : Result (List ℕ) ℕ) → leaves_of all object ≡ r → All P (top_of true object) → (ys : List ℕ)
-      → listed_in true all object.pages (leaves_of all object) ≡ Ok ys → All P ys → HoldsOfObject P all object
-  go (Err b) leaves top ys read rest = absurd (no_list ys b (sym (ap (listed_in true all object.pages) leaves) ∙ read))
-  go (Ok ls) leaves top ys read rest = record {
-    top = top;
-    ls = ls;
-    is = leaves;
-    parts = parts_of P all object.pages ls ys (sym (ap (listed_in true all object.pages) leaves) ∙ read) rest;
-  }
+    go : (r : Result (List ℕ) ℕ) → leaves_of all object ≡ r → All P (top_of true object) → (ys : List ℕ)
+        → listed_in true all object.pages (leaves_of all object) ≡ Ok ys → All P ys → HoldsOfObject P all object
+    go (Err b) leaves top ys read rest = absurd (no_list ys b (sym (ap (listed_in true all object.pages) leaves) ∙ read))
+    go (Ok ls) leaves top ys read rest = record {
+      top = top;
+      ls = ls;
+      is = leaves;
+      parts = parts_of P all object.pages ls ys (sym (ap (listed_in true all object.pages) leaves) ∙ read) rest;
+    }
 
 same_top : (all now : List (List ℕ)) (object : Ref) → length now ≡ length all → All (λ b. block_of now b ≡ block_of all b) (top_of true object)
     → leaves_of now object ≡ leaves_of all object
 same_top all now object size top = elim (cases_lt 252 object.pages) [
-    inl many ↦
+  | inl many ↦
       (let root : block_of now object.root ≡ block_of all object.root
-        = subst (All (λ b. block_of now b ≡ block_of all b)) (top_one object many) top 0 0 (omega arith) in
+      = subst (All (λ b. block_of now b ≡ block_of all b)) (top_one object many) top 0 0 (omega arith) in
       leaves_many now object many ∙ map_same all now 2 (leaf_count object.pages) object.root size root ∙ sym (leaves_many all object many))
   | inr less ↦ (elim (cases_lt 0 object.pages) [
-      inl some ↦ leaves_one now object (omega (arith, some)) less ∙ sym (leaves_one all object (omega (arith, some)) less)
+    | inl some ↦ leaves_one now object (omega (arith, some)) less ∙ sym (leaves_one all object (omega (arith, some)) less)
     | inr none ↦ leaves_none now object (omega (arith, none)) ∙ sym (leaves_none all object (omega (arith, none)))
-    ])
-  ]
+  ])
+]
 
 same_right : (all now : List (List ℕ)) (xs : List ℕ) → All (λ b. block_of now b ≡ block_of all b) xs
     → list_all (λ a. has_header page_kind a (block_of now a)) xs ≡ list_all (λ a. has_header page_kind a (block_of all a)) xs
@@ -127,23 +127,23 @@ frame_law all now object blocks few is same =
     let held = object_parts (λ b. block_of now b ≡ block_of all b) all object blocks is same.blocks in
     let leaves : leaves_of now object ≡ leaves_of all object = same_top all now object same.size held.top in
     let each : (j : ℕ) → j < length held.ls → block_of now (slice_index held.ls j) ≡ block_of all (slice_index held.ls j)
-      = λ j within. held.parts.leaves j 0 within in
+    = λ j within. held.parts.leaves j 0 within in
     let walk : (maps : Bool) → walked maps now object ≡ walked maps all object
-      = λ maps.
-        ap (λ (r : Result (List ℕ) ℕ). joined (Ok (top_of maps object)) (listed_in maps now object.pages r)) (leaves ∙ held.is)
-        ∙ ap (joined (Ok (top_of maps object))) (listed_same maps all now object.pages held.ls same.size each)
-        ∙ ap (λ (r : Result (List ℕ) ℕ). joined (Ok (top_of maps object)) (listed_in maps all object.pages r)) (sym held.is) in
+    = λ maps.
+    ap (λ (r : Result (List ℕ) ℕ). joined (Ok (top_of maps object)) (listed_in maps now object.pages r)) (leaves ∙ held.is)
+    ∙ ap (joined (Ok (top_of maps object))) (listed_same maps all now object.pages held.ls same.size each)
+    ∙ ap (λ (r : Result (List ℕ) ℕ). joined (Ok (top_of maps object)) (listed_in maps all object.pages r)) (sym held.is) in
     let named : addresses_of all object ≡ Ok held.parts.xs = addresses_from all object held.ls (Ok held.parts.xs) held.is held.parts.named in
     record {
       leaves = leaves;
       addresses = walk false;
       blocks = walk true;
       pages =
-        ap (contents now) (walk false ∙ named)
-        ∙ ap (λ (b : Bool). if b then Some (map (λ a. payload_of (block_of now a)) held.parts.xs) else None) (same_right all now held.parts.xs held.parts.pages_of_them)
-        ∙ ap (λ (ps : List (List ℕ)). if list_all (λ a. has_header page_kind a (block_of all a)) held.parts.xs then Some ps else None)
+          ap (contents now) (walk false ∙ named)
+          ∙ ap (λ (b : Bool). if b then Some (map (λ a. payload_of (block_of now a)) held.parts.xs) else None) (same_right all now held.parts.xs held.parts.pages_of_them)
+          ∙ ap (λ (ps : List (List ℕ)). if list_all (λ a. has_header page_kind a (block_of all a)) held.parts.xs then Some ps else None)
           (same_contents all now held.parts.xs held.parts.pages_of_them)
-        ∙ sym (ap (contents all) named);
+          ∙ sym (ap (contents all) named);
     }
 
 pub apart_law : (all : List (List ℕ)) (object : Ref) (blocks left : List ℕ) → object.pages ≤ 63504 → blocks_of all object ≡ Ok blocks
@@ -155,10 +155,10 @@ apart_law all object blocks left few is free =
       top = held.top;
       leaves = λ ls is_ok. subst (All (λ b. holds left b ≡ false)) (ok_is held.ls ls (leaves_of all object) held.is is_ok) held.parts.leaves;
       pages = λ n a within at.
-        let count = addresses_count all object held.parts.xs few named in
-        let here : slice_index held.parts.xs n ≡ a = same_ok (slice_index held.parts.xs n) a (address_of all object n) (address_at all object held.parts.xs n few named within) at in
-        subst (λ (b : ℕ). holds left b ≡ false) here (held.parts.pages_of_them n 0 (omega (arith, within, count)));
+          let count = addresses_count all object held.parts.xs few named in
+          let here : slice_index held.parts.xs n ≡ a = same_ok (slice_index held.parts.xs n) a (address_of all object n) (address_at all object held.parts.xs n few named within) at in
+          subst (λ (b : ℕ). holds left b ≡ false) here (held.parts.pages_of_them n 0 (omega (arith, within, count)));
     }
   where
-  same_ok : (a b : ℕ) (r : Result ℕ ℕ) → r ≡ Ok a → r ≡ Ok b → a ≡ b
-  same_ok a b r one two = cc
+    same_ok : (a b : ℕ) (r : Result ℕ ℕ) → r ≡ Ok a → r ≡ Ok b → a ≡ b
+    same_ok a b r one two = cc

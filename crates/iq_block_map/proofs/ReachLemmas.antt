@@ -1,19 +1,19 @@
 -- An object reads the same where no block that it reaches was written.
-use Rattle.std.specs.Prelude.{◌≡◌, ◌≢◌, ◌⊎◌, ℕ, zero, suc, ◌+◌, ◌-◌, ◌*◌, ◌/◌, ◌%◌, ◌^◌, ◌<◌, ◌≤◌, Bool, true, false, ◌&&◌, List, [], ◌∷◌, ◌++◌, length, take, drop, map, nat_eq, slice_index, slice_index_or, slice_set, if◌then◌else◌, Result, Ok, Err, Option, Some, None, IfOk, IfErr}
+use Rattle.std.specs.Prelude.{◌≡◌, ◌⊎◌, ℕ, zero, suc, ◌+◌, ◌*◌, ◌/◌, ◌%◌, ◌^◌, ◌<◌, ◌≤◌, Bool, true, false, List, [], ◌∷◌, ◌++◌, length, drop, map, nat_eq, slice_index, slice_set, if◌then◌else◌, Result, Ok, Err, Option, Some, None, IfOk, IfErr}
 use Rattle.std.specs.List.{All, list_all, IsDistinct}
 use Rattle.std.proofs.Common.{refl, sym, ap, subst, ◌∙◌, inl, inr, arith}
-use Rattle.std.proofs.lemmas.List.{get_or-take, get_or-drop, length-take, length-drop}
+use Rattle.std.proofs.lemmas.List.{get_or-take, get_or-drop}
 use Rattle.std.proofs.lemmas.Bool.{and_parts, cases_lt}
 use Rattle.iq_outside.specs.Devices.{block_of}
 use Rattle.iq_block_store.specs.Frames.{has_header, payload_of, framed}
 use Rattle.iq_block_store.proofs.FrameLemmas.{has_header-framed, payload_of-framed}
 use Rattle.iq_block_map.specs.declared.refs.Ref.{Ref}
 use Rattle.iq_block_map.specs.Maps.{page_kind}
-use Rattle.iq_block_map.specs.Objects.{leaf_count, used_in, map_at, leaves_of, listed, listed_in, joined, address_of, address_in, addresses_of, at_place, top_of, contents, pages_of}
+use Rattle.iq_block_map.specs.Objects.{leaf_count, used_in, leaves_of, listed_in, joined, address_of, address_in, addresses_of, at_place, contents, pages_of}
 use Rattle.iq_block_map.specs.Writing.{holds, SameBeside}
 use Rattle.iq_block_map.specs.Editing.{piece, AreApart, IsBadMap}
 use Rattle.iq_block_map.proofs.PutLemmas.{holds-append}
-use Rattle.iq_block_map.proofs.StepLemmas.{listed_same, listed_at, map_same, ok_is, length_map}
+use Rattle.iq_block_map.proofs.StepLemmas.{listed_same, listed_at, map_same}
 use Rattle.iq_block_map.proofs.NextLemmas.{distinct_parts}
 use Rattle.iq_block_map.proofs.TopLemmas.{leaves_one, leaves_many, leaves_none, top_one, listed_from, addresses_from, leaves_count, leaves_fit, addresses_count}
 
@@ -32,17 +32,17 @@ free_of all now object before taken left free b none = holds-append taken left b
 pub leaves_same : (all now : List (List ℕ)) (object : Ref) (before taken left : List ℕ) → IsFree all now object before taken left
     → leaves_of now object ≡ leaves_of all object
 leaves_same all now object before taken left free = elim (cases_lt 252 object.pages) [
-    inl many ↦
+  | inl many ↦
       (let apart : holds before object.root ≡ false = subst (All (λ b. holds before b ≡ false)) (top_one object many) free.apart.top 0 0 (omega arith) in
       let root = free_of all now object before taken left free object.root apart in
       leaves_many now object many
       ∙ map_same all now 2 (leaf_count object.pages) object.root free.same.size (free.same.others object.root root.0)
       ∙ sym (leaves_many all object many))
   | inr less ↦ (elim (cases_lt 0 object.pages) [
-      inl some ↦ leaves_one now object (omega (arith, some)) less ∙ sym (leaves_one all object (omega (arith, some)) less)
+    | inl some ↦ leaves_one now object (omega (arith, some)) less ∙ sym (leaves_one all object (omega (arith, some)) less)
     | inr none ↦ leaves_none now object (omega (arith, none)) ∙ sym (leaves_none all object (omega (arith, none)))
-    ])
-  ]
+  ])
+]
 
 -- so does the address of each page
 address_same : (all now : List (List ℕ)) (object : Ref) (before taken left : List ℕ) (n : ℕ) → IsFree all now object before taken left
@@ -50,12 +50,12 @@ address_same : (all now : List (List ℕ)) (object : Ref) (before taken left : L
 address_same all now object before taken left n free within =
     ap (address_in now object.pages n) (leaves_same all now object before taken left free) ∙ go (leaves_of all object) refl
   where
-  go : (r : Result (List ℕ) ℕ) → leaves_of all object ≡ r → address_in now object.pages n r ≡ address_in all object.pages n r
-  go (Err b) is = refl
-  go (Ok ls) is =
-      let inside : n / 252 < length ls = omega (arith, within, leaves_count all object ls free.few is) in
-      let apart = free_of all now object before taken left free (slice_index ls (n / 252)) (free.apart.leaves ls is (n / 252) 0 inside) in
-      ap (at_place (n % 252)) (map_same all now 1 (used_in object.pages (n / 252)) (slice_index ls (n / 252)) free.same.size
+    go : (r : Result (List ℕ) ℕ) → leaves_of all object ≡ r → address_in now object.pages n r ≡ address_in all object.pages n r
+    go (Err b) is = refl
+    go (Ok ls) is =
+        let inside : n / 252 < length ls = omega (arith, within, leaves_count all object ls free.few is) in
+        let apart = free_of all now object before taken left free (slice_index ls (n / 252)) (free.apart.leaves ls is (n / 252) 0 inside) in
+        ap (at_place (n % 252)) (map_same all now 1 (used_in object.pages (n / 252)) (slice_index ls (n / 252)) free.same.size
         (free.same.others (slice_index ls (n / 252)) apart.0))
 
 -- and the list of pages
@@ -63,17 +63,17 @@ pub addresses_same : (all now : List (List ℕ)) (object : Ref) (before taken le
     → addresses_of all object ≡ Ok xs → addresses_of now object ≡ Ok xs
 addresses_same all now object before taken left xs free is = go (leaves_of all object) refl
   where
-  go : (r : Result (List ℕ) ℕ) → leaves_of all object ≡ r → addresses_of now object ≡ Ok xs
-  go (Err b) leaves = absurd (no_err (sym (ap (λ (t : Result (List ℕ) ℕ). joined (Ok []) (listed_in false all object.pages t)) leaves) ∙ is))
-    where
-    no_err : ◌≡◌ {A = Result (List ℕ) ℕ} (Err b) (Ok xs) → ⊥
-    no_err wrong = cc
-  go (Ok ls) leaves =
-      addresses_from now object ls (Ok xs) (leaves_same all now object before taken left free ∙ leaves)
-      (listed_same false all now object.pages ls free.same.size
+    go : (r : Result (List ℕ) ℕ) → leaves_of all object ≡ r → addresses_of now object ≡ Ok xs
+    go (Err b) leaves = absurd (no_err (sym (ap (λ (t : Result (List ℕ) ℕ). joined (Ok []) (listed_in false all object.pages t)) leaves) ∙ is))
+      where
+        no_err : ◌≡◌ {A = Result (List ℕ) ℕ} (Err b) (Ok xs) → ⊥
+        no_err wrong = cc
+    go (Ok ls) leaves =
+        addresses_from now object ls (Ok xs) (leaves_same all now object before taken left free ∙ leaves)
+        (listed_same false all now object.pages ls free.same.size
         (λ j inside.
-          free.same.others (slice_index ls j) (free_of all now object before taken left free (slice_index ls j) (free.apart.leaves ls leaves j 0 inside)).0)
-      ∙ listed_from all object ls xs leaves is)
+        free.same.others (slice_index ls j) (free_of all now object before taken left free (slice_index ls j) (free.apart.leaves ls leaves j 0 inside)).0)
+        ∙ listed_from all object ls xs leaves is)
 
 -- what may still be taken is apart from the object as it is now
 pub apart_after : (all now : List (List ℕ)) (object : Ref) (before taken left : List ℕ) → IsFree all now object before taken left → AreApart now object left
@@ -88,20 +88,20 @@ pub address_at : (all : List (List ℕ)) (object : Ref) (xs : List ℕ) (i : ℕ
     → address_of all object i ≡ Ok (slice_index xs i)
 address_at all object xs i few is within = go (leaves_of all object) refl
   where
-  go : (r : Result (List ℕ) ℕ) → leaves_of all object ≡ r → address_of all object i ≡ Ok (slice_index xs i)
-  go (Err b) leaves = absurd (no_err (sym (ap (λ (t : Result (List ℕ) ℕ). joined (Ok []) (listed_in false all object.pages t)) leaves) ∙ is))
-    where
-    no_err : ◌≡◌ {A = Result (List ℕ) ℕ} (Err b) (Ok xs) → ⊥
-    no_err wrong = cc
-  go (Ok ls) leaves =
-      let enough = leaves_count all object ls few leaves in
-      let inside : i / 252 < length ls = omega (arith, within, enough) in
-      let read = listed_at all object.pages (i / 252) ls xs (listed_from all object ls xs leaves is) (leaves_fit all object ls few leaves) inside in
-      let place : 252 * (i / 252) + i % 252 ≡ i = omega arith in
-      let small : i % 252 < 252 = omega arith in
-      let at : slice_index (piece (i / 252) xs) (i % 252) ≡ slice_index xs i
+    go : (r : Result (List ℕ) ℕ) → leaves_of all object ≡ r → address_of all object i ≡ Ok (slice_index xs i)
+    go (Err b) leaves = absurd (no_err (sym (ap (λ (t : Result (List ℕ) ℕ). joined (Ok []) (listed_in false all object.pages t)) leaves) ∙ is))
+      where
+        no_err : ◌≡◌ {A = Result (List ℕ) ℕ} (Err b) (Ok xs) → ⊥
+        no_err wrong = cc
+    go (Ok ls) leaves =
+        let enough = leaves_count all object ls few leaves in
+        let inside : i / 252 < length ls = omega (arith, within, enough) in
+        let read = listed_at all object.pages (i / 252) ls xs (listed_from all object ls xs leaves is) (leaves_fit all object ls few leaves) inside in
+        let place : 252 * (i / 252) + i % 252 ≡ i = omega arith in
+        let small : i % 252 < 252 = omega arith in
+        let at : slice_index (piece (i / 252) xs) (i % 252) ≡ slice_index xs i
         = get_or-take 252 (drop (252 * (i / 252)) xs) (i % 252) 0 small ∙ get_or-drop (252 * (i / 252)) xs (i % 252) 0 ∙ ap (slice_index xs) place in
-      ap (address_in all object.pages i) leaves ∙ ap (at_place (i % 252)) read ∙ ap Ok at
+        ap (address_in all object.pages i) leaves ∙ ap (at_place (i % 252)) read ∙ ap Ok at
 
 -- a block holds a page with this content
 pub record HoldsIn (all : List (List ℕ)) (a : ℕ) (p : List ℕ) : Type 0 where
@@ -141,14 +141,14 @@ pub pages_held : (all : List (List ℕ)) (object : Ref) (ps : List (List ℕ)) �
     → (xs : List ℕ) × (addresses_of all object ≡ Ok xs) × ArePages all xs ps
 pages_held all object ps is = go (addresses_of all object) refl
   where
-  go : (r : Result (List ℕ) ℕ) → addresses_of all object ≡ r → (xs : List ℕ) × (addresses_of all object ≡ Ok xs) × ArePages all xs ps
-  go (Err b) bad = absurd (never (sym (ap (contents all) bad) ∙ is))
-    where
-    never : ◌≡◌ {A = Option (List (List ℕ))} None (Some ps) → ⊥
-    never wrong = cc
-  go (Ok xs) good =
-      let parts = cut_some (list_all (λ a. has_header page_kind a (block_of all a)) xs) (map (λ a. payload_of (block_of all a)) xs) ps (sym (ap (contents all) good) ∙ is) in
-      (xs, good, pages_from all xs ps parts.0 parts.1)
+    go : (r : Result (List ℕ) ℕ) → addresses_of all object ≡ r → (xs : List ℕ) × (addresses_of all object ≡ Ok xs) × ArePages all xs ps
+    go (Err b) bad = absurd (never (sym (ap (contents all) bad) ∙ is))
+      where
+        never : ◌≡◌ {A = Option (List (List ℕ))} None (Some ps) → ⊥
+        never wrong = cc
+    go (Ok xs) good =
+        let parts = cut_some (list_all (λ a. has_header page_kind a (block_of all a)) xs) (map (λ a. payload_of (block_of all a)) xs) ps (sym (ap (contents all) good) ∙ is) in
+        (xs, good, pages_from all xs ps parts.0 parts.1)
 
 all_right : (all : List (List ℕ)) (xs : List ℕ) (ps : List (List ℕ)) → ArePages all xs ps
     → (list_all (λ a. has_header page_kind a (block_of all a)) xs ≡ true) × (map (λ a. payload_of (block_of all a)) xs ≡ ps)
@@ -171,9 +171,10 @@ pages_same all now [] [] are same = tt
 pages_same all now [] (p ∷ ps) are same = are
 pages_same all now (x ∷ xs) [] are same = are
 pages_same all now (x ∷ xs) (p ∷ ps) are same =
-    let here = same 0 (omega arith) in
-    (record { header = ap (has_header page_kind x) here ∙ are.0.header; content = ap payload_of here ∙ are.0.content },
-      pages_same all now xs ps are.1 (λ i within. same (suc i) (omega (arith, within))))
+    let here = same 0 (omega arith) in (
+      record { header = ap (has_header page_kind x) here ∙ are.0.header; content = ap payload_of here ∙ are.0.content },
+      pages_same all now xs ps are.1 (λ i within. same (suc i) (omega (arith, within))),
+    )
 
 pub pages_set : (all : List (List ℕ)) (xs : List ℕ) (ps : List (List ℕ)) (i a : ℕ) (p : List ℕ) → ArePages all xs ps → HoldsIn all a p
     → ArePages all (slice_set xs i a) (slice_set ps i p)
@@ -217,12 +218,12 @@ pub old_pages : (all mid now : List (List ℕ)) (object : Ref) (before taken lef
     → IsPaged all mid now object before taken left taken' after at from → addresses_of all object ≡ Ok xs → ArePages all xs ps → ArePages now xs ps
 old_pages all mid now object before taken left taken' after at from xs ps paged is are = pages_same all now xs ps are
     (λ i inside.
-      let count = addresses_count all object xs paged.free.few is in
-      let within : i < object.pages = omega (arith, inside, count) in
-      let none = paged.free.apart.pages i (slice_index xs i) within (address_at all object xs i paged.free.few is within) in
-      let free = free_of all mid object before taken left paged.free (slice_index xs i) none in
-      let later = holds-append taken' after (slice_index xs i) (ap (λ (t : List ℕ). holds t (slice_index xs i)) (sym paged.split) ∙ free.1) in
-      paged.same.others (slice_index xs i) later.0 ∙ paged.free.same.others (slice_index xs i) free.0)
+    let count = addresses_count all object xs paged.free.few is in
+    let within : i < object.pages = omega (arith, inside, count) in
+    let none = paged.free.apart.pages i (slice_index xs i) within (address_at all object xs i paged.free.few is within) in
+    let free = free_of all mid object before taken left paged.free (slice_index xs i) none in
+    let later = holds-append taken' after (slice_index xs i) (ap (λ (t : List ℕ). holds t (slice_index xs i)) (sym paged.split) ∙ free.1) in
+    paged.same.others (slice_index xs i) later.0 ∙ paged.free.same.others (slice_index xs i) free.0)
 
 -- a result that says as much in other words
 pub ok_on : {T E : Type 0} (P Q : T → Type 0) (r : Result T E) → ((x : T) → P x → Q x) → IfOk r P → IfOk r Q

@@ -1,11 +1,9 @@
 -- Objects that share what didn't change.
-use Rattle.std.specs.Prelude.{◌≡◌, ◌≢◌, ◌⊎◌, ℕ, ◌+◌, ◌-◌, ◌*◌, ◌<◌, ◌≤◌, true, false, List, [], ◌∷◌, ◌++◌, length, take, drop, replicate, nat_eq, nat_lt, Bool, if◌then◌else◌, slice_index, slice_set, Result, Ok, Err, Option, Some}
+use Rattle.std.specs.Prelude.{◌≡◌, ℕ, ◌+◌, ◌-◌, ◌*◌, ◌<◌, ◌≤◌, true, false, List, [], ◌∷◌, ◌++◌, length, take, drop, nat_eq, if◌then◌else◌, slice_index, slice_set, Ok, Err, Option, Some}
 use Rattle.std.specs.List.{All, fold}
-use Rattle.iq_outside.specs.Devices.{block_of}
 use Rattle.iq_block_map.specs.declared.refs.Ref.{Ref}
-use Rattle.iq_block_map.specs.Maps.{is_address, map_block}
-use Rattle.iq_block_map.specs.Objects.{leaf_count, used_in, map_at, leaves_of, listed, addresses_of, address_of, top_of}
-use Rattle.iq_block_map.specs.Refs.{MayBe}
+use Rattle.iq_block_map.specs.Maps.{is_address}
+use Rattle.iq_block_map.specs.Objects.{used_in, map_at, leaves_of, addresses_of, address_of, top_of}
 use Rattle.iq_block_map.specs.Writing.{holds}
 
 -- pages with some replaced, each of which is a number, from a first one on, and a block

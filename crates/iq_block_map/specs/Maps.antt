@@ -1,5 +1,5 @@
 -- The bytes of a map: 252 numbers of 4 bytes behind its header. Those in use name blocks of the store, the others are zero.
-use Rattle.std.specs.Prelude.{◌≡◌, ℕ, zero, suc, ◌+◌, ◌*◌, Bool, ◌&&◌, List, [], ◌∷◌, ◌++◌, length, take, drop, replicate, nat_eq, nat_lt, nat_le}
+use Rattle.std.specs.Prelude.{ℕ, zero, suc, ◌+◌, Bool, ◌&&◌, List, [], ◌∷◌, take, drop, nat_eq, nat_lt, nat_le}
 use Rattle.std.specs.List.{list_all, flat_map}
 use Rattle.iq_block_store.specs.Frames.{number_at, bytes_of, map_kind, has_header, framed}
 

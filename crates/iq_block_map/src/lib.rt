@@ -16,7 +16,8 @@ mod writing;
 
 pub use editing::remap;
 pub use laws::{
-    a_page_is_where_the_list_says, an_object_stands_on_what_it_reaches, what_is_not_reached_is_apart,
+    a_page_is_where_the_list_says, an_object_stands_on_what_it_reaches,
+    what_is_not_reached_is_apart,
 };
 pub use pages::{push, with_page};
 pub use reading::{addresses, blocks, page};

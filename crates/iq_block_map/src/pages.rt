@@ -1,7 +1,7 @@
 //! Writing one page of an object.
-ghost use Rattle.std.specs.Prelude.{◌≡◌, ◌⊎◌, ◌<◌, ◌≤◌, ◌+◌, ◌∷◌, ◌++◌, ℕ, List, [], Some, Ok, Err, length, drop, IfOk, IfErr, slice_set};
+ghost use Rattle.std.specs.Prelude.{◌≡◌, ◌⊎◌, ◌<◌, ◌+◌, ◌∷◌, ◌++◌, ℕ, List, [], Some, Err, IfOk, IfErr, slice_set};
 ghost use Rattle.iq_block_map.specs.Refs.{IsIn};
-ghost use Rattle.iq_block_map.specs.Objects.{leaves_of, addresses_of, pages_of};
+ghost use Rattle.iq_block_map.specs.Objects.{leaves_of, pages_of};
 ghost use Rattle.iq_block_map.specs.Takers.{AreSpare};
 ghost use Rattle.iq_block_map.specs.Writing.{HasPut};
 ghost use Rattle.iq_block_map.specs.Editing.{AreApart, IsNowIn, IsBadMap};

@@ -1,6 +1,6 @@
 //! Writing blocks that were taken for it.
-ghost use Rattle.std.specs.Prelude.{◌≡◌, ◌⊎◌, ◌<◌, ◌^◌, ℕ, ◌∷◌, List, [], Some, IfOk, IfErr, slice_set};
-ghost use Rattle.iq_block_store.specs.Frames.{framed, map_kind};
+ghost use Rattle.std.specs.Prelude.{◌≡◌, ◌<◌, ◌^◌, ℕ, ◌∷◌, List, Some, IfOk, IfErr, slice_set};
+ghost use Rattle.iq_block_store.specs.Frames.{framed};
 ghost use Rattle.iq_block_map.specs.Takers.{AreSpare};
 ghost use Rattle.iq_block_map.specs.Writing.{HasPut};
 ghost use Rattle.iq_block_map.specs.Causes.{IsPutFault};

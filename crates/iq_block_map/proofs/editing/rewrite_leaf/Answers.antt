@@ -1,4 +1,4 @@
-use Rattle.std.proofs.Common.{rules, arith, refl, sym, ◌∙◌, inl}
+use Rattle.std.proofs.Common.{rules, refl, inl}
 use Rattle.iq_block_map.specs.Editing.{replaced_from}
 use Rattle.iq_block_map.specs.Leaves.{leaf_at}
 use Rattle.iq_block_map.proofs.EditLemmas.{length-replaced}
