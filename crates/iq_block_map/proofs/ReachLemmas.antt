@@ -11,7 +11,7 @@ use Rattle.iq_block_map.specs.declared.refs.Ref.{Ref}
 use Rattle.iq_block_map.specs.Maps.{page_kind}
 use Rattle.iq_block_map.specs.Objects.{leaf_count, used_in, leaves_of, listed_in, joined, address_of, address_in, addresses_of, at_place, contents, pages_of}
 use Rattle.iq_block_map.specs.Writing.{holds, SameBeside}
-use Rattle.iq_block_map.specs.Editing.{piece, AreApart, IsBadMap}
+use Rattle.iq_block_map.specs.Editing.{piece, AreApart, IsBadMap, HasRemapped}
 use Rattle.iq_block_map.proofs.PutLemmas.{holds-append}
 use Rattle.iq_block_map.proofs.StepLemmas.{listed_same, listed_at, map_same}
 use Rattle.iq_block_map.proofs.NextLemmas.{distinct_parts}
@@ -247,4 +247,14 @@ bad_before all now object before taken left b free (inr bad) =
       leaves = leaves;
       within = bad.within;
       bad = sym (map_same all now 1 (used_in object.pages bad.k) (slice_index bad.ls bad.k) free.same.size (free.same.others (slice_index bad.ls bad.k) apart.0)) ∙ bad.bad;
+    }
+
+-- what became of an object as it was after a page was put became of it as it was before
+pub remapped_before : (all mid now : List (List ℕ)) (object new : Ref) (before taken left : List ℕ) (xs ys zs rest after : List ℕ)
+    → IsFree all mid object before taken left → HasRemapped mid now object new xs zs rest after → zs ≡ ys → HasRemapped all now object new xs ys rest after
+remapped_before all mid now object new before taken left xs ys zs rest after free remapped same =
+    subst (λ (t : List ℕ). HasRemapped all now object new xs t rest after) same record {
+      size = remapped.size;
+      addresses = remapped.addresses;
+      maps = λ ls ms is_old is_new. remapped.maps ls ms (leaves_same all mid object before taken left free ∙ is_old) is_new;
     }

@@ -55,7 +55,14 @@ pub record HasRemapped (all now : List (List ℕ)) (old new : Ref) (xs ys before
   pub addresses : addresses_of now new ≡ Ok ys
   pub maps : (ls ms : List ℕ) → leaves_of all old ≡ Ok ls → leaves_of now new ≡ Ok ms → SharesMaps old new xs ys before after ls ms
 
--- the same of objects with some contents
+-- a block was taken for a page, and the object became one that has it, by the blocks that were left then
+pub record PutsPage (with : ℕ → List ℕ) (all now : List (List ℕ)) (old new : Ref) (xs before after : List ℕ) : Type 0 where
+  pub at : ℕ
+  pub left : List ℕ
+  pub first : before ≡ at ∷ left
+  pub remapped : HasRemapped all now old new xs (with at) left after
+
+-- it holds of the blocks of a device, where that tells them
 abbrev pub IsNowIn : (List (List ℕ) → Type 0) → Option (List (List ℕ)) → Type 0
 IsNowIn Holds told = (now : List (List ℕ)) → told ≡ Some now → Holds now
 

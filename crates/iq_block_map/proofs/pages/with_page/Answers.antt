@@ -7,7 +7,7 @@ use Rattle.iq_block_map.specs.Maps.{is_address, page_kind}
 use Rattle.iq_block_map.proofs.PutLemmas.{put_then, first_inside, told_same}
 use Rattle.iq_block_map.proofs.ReadLemmas.{edit_fault_on}
 use Rattle.iq_block_map.proofs.RewriteLemmas.{put_told, spare_after}
-use Rattle.iq_block_map.proofs.ReachLemmas.{ArePages, IsFree, IsPaged, new_page, old_pages, pages_held, pages_hold, pages_set, addresses_same, apart_after, bad_before, ok_on, err_on}
+use Rattle.iq_block_map.proofs.ReachLemmas.{ArePages, IsFree, IsPaged, new_page, old_pages, pages_held, pages_hold, pages_set, addresses_same, apart_after, bad_before, remapped_before, ok_on, err_on}
 use Rattle.iq_block_map.proofs.pages.with_page.Goals as goal
 
 pub remap-requires-clause-spare : goal.remap-requires-clause-spare
@@ -80,3 +80,25 @@ returns-clause-cause g c = err_on _ _ c.remap.result
     ))
     cause)
     c.remap.ensures.cause
+
+pub returns-clause-maps : goal.returns-clause-maps
+returns-clause-maps g c = ok_on _ _ c.remap.result
+    (λ new made all xs told apart is now told_now.
+      let mid = c.put.ensures.put.content all told in
+      let free : IsFree all mid.0 c.args.object (g.T.Taker.left c.args.space.now) _ (g.T.Taker.left c.put.new.space) = record {
+        few = c.requires.object.few;
+        same = mid.2;
+        split = c.put.ensures.put.left;
+        apart = apart;
+      } in
+      let place : c.args.n - 0 ≡ c.args.n = omega arith in
+      let shape : edited xs ((c.args.n, c.in_ok-at.at) ∷ []) [] ≡ slice_set xs c.args.n c.in_ok-at.at
+        = append-nil (slice_set xs (c.args.n - 0) c.in_ok-at.at) ∙ ap (λ (i : ℕ). slice_set xs i c.in_ok-at.at) place in
+      record {
+        at = c.in_ok-at.at;
+        left = g.T.Taker.left c.put.new.space;
+        first = c.in_ok-at.ensures.left;
+        remapped = remapped_before all mid.0 now c.args.object new _ _ _ xs _ _ _ _ free
+          (made mid.0 xs mid.1 (apart_after all mid.0 c.args.object _ _ _ free) (addresses_same all mid.0 c.args.object _ _ _ xs free is) now told_now) shape;
+      })
+    c.remap.ensures.ok
