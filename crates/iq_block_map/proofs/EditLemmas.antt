@@ -1,12 +1,13 @@
 -- Pages replaced and added, piece by piece.
-use Rattle.std.specs.Prelude.{◌≡◌, ◌≢◌, ◌⊎◌, ℕ, zero, suc, ◌+◌, ◌-◌, ◌*◌, ◌<◌, ◌≤◌, min, Bool, true, false, List, [], ◌∷◌, ◌++◌, length, take, drop, replicate, nat_lt, nat_eq, slice_index, slice_index_or, slice_set}
-use Rattle.std.specs.List.{All, fold, prefix_len}
+use Rattle.std.specs.Prelude.{◌≡◌, ℕ, zero, suc, ◌+◌, ◌-◌, ◌*◌, ◌<◌, ◌≤◌, min, true, false, List, [], ◌∷◌, ◌++◌, length, take, drop, replicate, slice_index_or, slice_set}
+use Rattle.std.specs.List.{prefix_len}
 use Rattle.std.proofs.Common.{refl, sym, ap, subst, ◌∙◌, inl, inr, arith, append_assoc, append-nil, length-append, length-set}
-use Rattle.std.proofs.lemmas.List.{take_more, take_at, drop_at, take_all, drop_all, take-append-le, drop-append-le, take-append-drop, length-take, length-drop, length-replicate, drop-replicate, take_min, drop_min, set-append_left, set-append_right, drop-drop}
+use Rattle.std.proofs.lemmas.List.{take_more, take_at, drop_at, take_all, drop_all, take-append-drop, length-take, length-drop, drop-replicate, take_min, drop_min, set-append_left, set-append_right, drop-drop}
 use Rattle.std.proofs.lemmas.List.Sums.{fold-append}
 use Rattle.std.proofs.lemmas.Bool.{cases_lt, lt-ltb, le-ltb}
 use Rattle.iq_block_map.specs.Objects.{used_in}
-use Rattle.iq_block_map.specs.Editing.{below, replaced_from, edited, piece, padded, AreChanges}
+use Rattle.iq_block_map.specs.Editing.{replaced_from, edited, piece, AreChanges}
+use Rattle.iq_block_map.specs.Leaves.{below, padded}
 
 abbrev change_one : ℕ → List ℕ → ℕ × ℕ → List ℕ
 change_one first ys c = slice_set ys (c.0 - first) c.1

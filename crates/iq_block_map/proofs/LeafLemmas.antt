@@ -1,17 +1,17 @@
 -- Leaves as they are read and written.
-use Rattle.std.specs.Prelude.{◌≡◌, ◌≢◌, ◌⊎◌, ℕ, zero, suc, ◌+◌, ◌-◌, ◌*◌, ◌^◌, ◌<◌, ◌≤◌, min, Bool, true, false, ◌&&◌, List, [], ◌∷◌, ◌++◌, length, take, drop, replicate, nat_eq, nat_lt, nat_le, slice_index, slice_index_or, slice_set, Result, Ok, Err, Option, Some}
+use Rattle.std.specs.Prelude.{◌≡◌, ℕ, zero, suc, ◌+◌, ◌-◌, ◌^◌, ◌<◌, ◌≤◌, Bool, true, List, [], ◌∷◌, ◌++◌, length, take, drop, replicate, nat_eq, slice_index, slice_index_or, slice_set, Result, Ok}
 use Rattle.std.specs.List.{All, list_all, flat_map}
-use Rattle.std.proofs.Common.{refl, sym, ap, subst, ◌∙◌, inl, inr, arith, append-nil, length-append, length-set, get_or-set_same}
-use Rattle.std.proofs.lemmas.List.{take_at, drop_at, take_all, take-append-drop, length-take, length-drop, length-replicate, get_or_append_left, get_or-append_right, get_or-replicate, get_or_at}
-use Rattle.std.proofs.lemmas.Bool.{and_parts, eqb-true, eq-eqb, cases_lt, ltb-true, leb-true, lt-ltb, le-leb}
+use Rattle.std.proofs.Common.{refl, sym, ap, ◌∙◌, inl, inr, arith, append-nil, length-append, length-set, get_or-set_same}
+use Rattle.std.proofs.lemmas.List.{take_at, drop_at, take-append-drop, length-take, length-drop, length-replicate, get_or_append_left, get_or-append_right, get_or-replicate, get_or_at}
+use Rattle.std.proofs.lemmas.Bool.{and_parts, eqb-true, eq-eqb, cases_lt, ltb-true, leb-true}
 use Rattle.iq_outside.specs.Devices.{block_of}
-use Rattle.iq_block_store.specs.Frames.{map_kind, bytes_of, has_header, number_at, header, framed}
+use Rattle.iq_block_store.specs.Frames.{map_kind, bytes_of, header}
 use Rattle.iq_block_store.proofs.FrameLemmas.{has_header-framed, framed_level, length-header}
 use Rattle.iq_block_map.specs.Maps.{numbers_at, places, is_address, are_places, is_map, map_block}
 use Rattle.iq_block_map.specs.Refs.{MayBe}
 use Rattle.iq_block_map.specs.Objects.{map_at}
-use Rattle.iq_block_map.specs.Editing.{padded}
-use Rattle.iq_block_map.proofs.MapLemmas.{numbers_back, length-places}
+use Rattle.iq_block_map.specs.Leaves.{padded}
+use Rattle.iq_block_map.proofs.MapLemmas.{numbers_back}
 
 zeros_of : (zs : List ℕ) → list_all (nat_eq 0) zs ≡ true → zs ≡ replicate (length zs) 0
 zeros_of [] are = refl

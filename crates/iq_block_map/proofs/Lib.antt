@@ -9,3 +9,5 @@ pub mod NextLemmas
 pub mod RewriteLemmas
 pub mod NamedLemmas
 pub mod TopLemmas
+pub mod ReachLemmas
+pub mod FrameLaws

@@ -1,13 +1,14 @@
 -- The blocks that an edited object names are blocks of the store.
-use Rattle.std.specs.Prelude.{◌≡◌, ◌⊎◌, ℕ, zero, suc, ◌+◌, ◌-◌, ◌*◌, ◌/◌, ◌<◌, ◌≤◌, min, Bool, true, false, ◌&&◌, List, [], ◌∷◌, ◌++◌, length, take, drop, nat_eq, slice_index, slice_index_or, slice_set, if◌then◌else◌, Result, Ok, Err}
-use Rattle.std.specs.List.{All, list_all, fold, prefix_len}
+use Rattle.std.specs.Prelude.{◌≡◌, ℕ, zero, suc, ◌+◌, ◌-◌, ◌*◌, ◌<◌, ◌≤◌, min, Bool, true, false, List, [], ◌∷◌, ◌++◌, length, take, drop, slice_index_or, slice_set, if◌then◌else◌, Ok, Err}
+use Rattle.std.specs.List.{All, list_all, prefix_len}
 use Rattle.std.proofs.Common.{refl, sym, ap, subst, ◌∙◌, inl, inr, arith, length-append, length-set, get_or-set_other, get_or-set_same}
 use Rattle.std.proofs.lemmas.List.{get_or-take, get_or-drop, length-take, length-drop, get_or_append_left, get_or-append_right}
 use Rattle.std.proofs.lemmas.Bool.{and_parts, cases_lt, cases_eq}
 use Rattle.iq_outside.specs.Devices.{block_of}
-use Rattle.iq_block_map.specs.Maps.{places, is_address, are_places, is_map}
-use Rattle.iq_block_map.specs.Objects.{leaf_count, used_in, map_at, listed, joined}
-use Rattle.iq_block_map.specs.Editing.{below, edited, replaced_from, new_blocks, AreChanges}
+use Rattle.iq_block_map.specs.Maps.{places, is_address, is_map}
+use Rattle.iq_block_map.specs.Objects.{used_in, map_at, listed, joined}
+use Rattle.iq_block_map.specs.Editing.{edited, replaced_from, new_blocks, AreChanges}
+use Rattle.iq_block_map.specs.Leaves.{below}
 use Rattle.iq_block_map.proofs.StepLemmas.{both_parts, length_map}
 use Rattle.iq_block_map.proofs.EditLemmas.{changes_cut, no_changes}
 

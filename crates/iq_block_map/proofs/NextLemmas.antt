@@ -1,16 +1,15 @@
 -- One more leaf that stayed or was written.
-use Rattle.std.specs.Prelude.{◌≡◌, ◌≢◌, ◌⊎◌, ℕ, zero, suc, ◌+◌, ◌-◌, ◌*◌, ◌/◌, ◌^◌, ◌<◌, ◌≤◌, min, Bool, true, false, ◌||◌, List, [], ◌∷◌, ◌++◌, length, take, drop, replicate, nat_eq, nat_lt, nat_le, slice_index, slice_index_or, slice_set, if◌then◌else◌, Result, Ok, Err, Option, Some}
-use Rattle.std.specs.List.{All, list_all, list_any, IsDistinct, AllByRecursion, fold}
-use Rattle.std.proofs.Common.{refl, sym, ap, subst, ◌∙◌, inl, inr, arith, append_assoc, append-nil, length-append, length-set, get_or-set_other}
-use Rattle.std.proofs.lemmas.List.{get_or-take, get_or-drop, length-take, length-drop, get_or_append_left, get_or-append_right, get_or-set_same}
-use Rattle.std.proofs.lemmas.Bool.{and_parts, eq-eqb, ne_eqb, cases_lt, cases_eq, leb-true, ltb-true}
+use Rattle.std.specs.Prelude.{◌≡◌, ◌≢◌, ℕ, ◌+◌, ◌*◌, ◌^◌, ◌<◌, ◌≤◌, true, false, ◌||◌, List, [], ◌∷◌, length, drop, nat_eq, nat_lt, nat_le, slice_index, slice_index_or, slice_set, Ok}
+use Rattle.std.specs.List.{All, IsDistinct, AllByRecursion}
+use Rattle.std.proofs.Common.{refl, sym, ap, subst, ◌∙◌, inl, inr, arith, length-set, get_or-set_other}
+use Rattle.std.proofs.lemmas.List.{get_or-take, get_or-drop, length-take, length-drop}
+use Rattle.std.proofs.lemmas.Bool.{and_parts, eq-eqb, ne_eqb, cases_eq, leb-true, ltb-true}
 use Rattle.iq_outside.specs.Devices.{block_of}
-use Rattle.iq_block_map.specs.Maps.{places, is_address, are_places, is_map, map_block}
-use Rattle.iq_block_map.specs.Refs.{MayBe}
-use Rattle.iq_block_map.specs.Objects.{leaf_count, used_in, map_at, listed, joined}
-use Rattle.iq_block_map.specs.Takers.{AreSpare}
+use Rattle.iq_block_map.specs.Maps.{is_address, map_block}
+use Rattle.iq_block_map.specs.Objects.{used_in, map_at}
 use Rattle.iq_block_map.specs.Writing.{holds}
-use Rattle.iq_block_map.specs.Editing.{piece, padded, fresh, leaf_at, replaced_from, new_blocks, StaysLeaf, MakesLeaf}
+use Rattle.iq_block_map.specs.Editing.{piece}
+use Rattle.iq_block_map.specs.Leaves.{padded, leaf_at, StaysLeaf, MakesLeaf}
 use Rattle.iq_block_map.proofs.LeafLemmas.{map_written}
 use Rattle.iq_block_map.proofs.StepLemmas.{NextLeaf, KeepsLeaves, piece_length}
 

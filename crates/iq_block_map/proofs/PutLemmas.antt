@@ -1,10 +1,9 @@
 -- What was written, one call after the other.
-use Rattle.std.specs.Prelude.{◌≡◌, ◌≢◌, ◌⊎◌, ℕ, ◌+◌, ◌-◌, ◌<◌, ◌≤◌, Bool, true, false, ◌||◌, List, [], ◌∷◌, ◌++◌, length, take, nat_eq, Option, Some, None, slice_index, slice_set, Result, Ok, Err}
-use Rattle.std.specs.List.{list_any}
-use Rattle.std.proofs.Common.{refl, sym, ap, ◌∙◌, inl, inr, arith, append_assoc, append-nil, length-append, length-set, get_or-set_other}
-use Rattle.std.proofs.lemmas.List.{take_at, append_cancel_left}
+use Rattle.std.specs.Prelude.{◌≡◌, ℕ, ◌-◌, ◌<◌, ◌≤◌, Bool, true, false, ◌||◌, List, [], ◌∷◌, ◌++◌, length, take, nat_eq, Option, Some, slice_index, slice_set, Result, Ok, Err}
+use Rattle.std.proofs.Common.{refl, sym, ap, ◌∙◌, inl, inr, arith, append_assoc, length-append}
+use Rattle.std.proofs.lemmas.List.{take_at}
 use Rattle.std.proofs.lemmas.Bool.{eq-eqb, cases_lt, ltb-true, and_parts}
-use Rattle.iq_outside.specs.Devices.{block_of, SameBut, KeepsPast, AddsNone, AddsAt, HasWritten, Stored}
+use Rattle.iq_outside.specs.Devices.{SameBut, KeepsPast, HasWritten, Stored}
 use Rattle.iq_outside.proofs.ImageLemmas.{SameBut-set}
 use Rattle.iq_block_store.specs.Looks.{HasLooked}
 use Rattle.iq_block_map.specs.Maps.{is_address}

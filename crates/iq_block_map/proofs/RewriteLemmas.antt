@@ -1,19 +1,20 @@
 -- All leaves of an object, written anew where they changed.
-use Rattle.std.specs.Prelude.{◌≡◌, ◌≢◌, ◌⊎◌, ℕ, zero, suc, ◌+◌, ◌-◌, ◌*◌, ◌/◌, ◌^◌, ◌<◌, ◌≤◌, min, Bool, true, false, ◌&&◌, ◌||◌, List, [], ◌∷◌, ◌++◌, length, take, drop, replicate, nat_eq, slice_index, slice_index_or, slice_set, if◌then◌else◌, Result, Ok, Err, Option, Some, None}
-use Rattle.std.specs.List.{All, list_all, list_any, IsDistinct, fold}
-use Rattle.std.proofs.Common.{refl, sym, ap, subst, ◌∙◌, inl, inr, arith, append-nil, length-append, length-set, get_or-set_other, get_or-set_same}
-use Rattle.std.proofs.lemmas.List.{get_or-take, get_or-drop, length-take, length-drop, drop_all, take_all, drop-drop, drop-set-lt, get_or_append_left, get_or-append_right, get_or_past}
+use Rattle.std.specs.Prelude.{◌≡◌, ◌≢◌, ℕ, zero, suc, ◌+◌, ◌-◌, ◌*◌, ◌^◌, ◌<◌, ◌≤◌, Bool, true, false, List, [], ◌∷◌, ◌++◌, length, take, drop, nat_eq, slice_index, slice_index_or, slice_set, Result, Ok, Err, Option, Some, None}
+use Rattle.std.specs.List.{All, list_all, IsDistinct}
+use Rattle.std.proofs.Common.{refl, sym, ap, subst, ◌∙◌, inl, inr, arith, length-append}
+use Rattle.std.proofs.lemmas.List.{get_or-take, get_or-drop, length-take, drop_all, take_all, drop-drop, drop-set-lt, get_or-append_right}
 use Rattle.std.proofs.lemmas.Bool.{and_parts, eq-eqb, ne_eqb, eqb-true, cases_lt, cases_eq}
-use Rattle.iq_outside.specs.Devices.{block_of, KeepsPast}
+use Rattle.iq_outside.specs.Devices.{block_of}
 use Rattle.iq_block_map.specs.declared.refs.Ref.{Ref}
-use Rattle.iq_block_map.specs.Maps.{places, is_address, are_places, is_map}
+use Rattle.iq_block_map.specs.Maps.{is_address}
 use Rattle.iq_block_map.specs.Refs.{MayBe}
-use Rattle.iq_block_map.specs.Objects.{leaf_count, used_in, map_at, listed, joined}
+use Rattle.iq_block_map.specs.Objects.{leaf_count, used_in, map_at}
 use Rattle.iq_block_map.specs.Takers.{AreSpare, taken_of}
-use Rattle.iq_block_map.specs.Writing.{holds, SameBeside, AddsBeside, HasPut}
-use Rattle.iq_block_map.specs.Editing.{piece, padded, fresh, leaf_at, edited, replaced_from, new_blocks, EndsLeaf, StaysLeaf, MakesLeaf, IsOpened, AreOpened, IsBadLeaf, HasLeaves, HasLeavesAt}
+use Rattle.iq_block_map.specs.Writing.{holds, SameBeside, HasPut}
+use Rattle.iq_block_map.specs.Editing.{piece}
+use Rattle.iq_block_map.specs.Leaves.{leaf_at, EndsLeaf, IsOpened, AreOpened, IsBadLeaf, HasLeaves, HasLeavesAt}
 use Rattle.iq_block_map.proofs.PutLemmas.{holds-append}
-use Rattle.iq_block_map.proofs.StepLemmas.{IsSoFar, so_far_more, listed_at, map_same, both_parts, piece_length}
+use Rattle.iq_block_map.proofs.StepLemmas.{IsSoFar, so_far_more, listed_at, map_same}
 use Rattle.iq_block_map.proofs.NextLemmas.{distinct_parts, head_apart, stays_next, makes_next, behind_of}
 use Rattle.iq_block_map.proofs.ReadLemmas.{address_at}
 

@@ -1,17 +1,14 @@
 -- Leaves written one after the other.
-use Rattle.std.specs.Prelude.{◌≡◌, ◌≢◌, ◌⊎◌, ℕ, zero, suc, ◌+◌, ◌-◌, ◌*◌, ◌/◌, ◌^◌, ◌<◌, ◌≤◌, min, Bool, true, false, ◌||◌, List, [], ◌∷◌, ◌++◌, length, take, drop, replicate, nat_eq, slice_index, slice_index_or, slice_set, if◌then◌else◌, Result, Ok, Err}
-use Rattle.std.specs.List.{All, list_all, list_any}
-use Rattle.std.proofs.Common.{refl, sym, ap, subst, ◌∙◌, inl, inr, arith, append_assoc, append-nil, length-append, length-set, get_or-set_other, get_or-set_same}
+use Rattle.std.specs.Prelude.{◌≡◌, ◌⊎◌, ℕ, zero, suc, ◌+◌, ◌-◌, ◌*◌, ◌<◌, ◌≤◌, min, Bool, true, false, List, [], ◌∷◌, ◌++◌, length, take, drop, nat_eq, slice_index, slice_set, if◌then◌else◌, Result, Ok, Err}
+use Rattle.std.proofs.Common.{refl, sym, ap, subst, ◌∙◌, inl, inr, arith, append_assoc, append-nil, get_or-set_other, get_or-set_same}
 use Rattle.std.proofs.lemmas.List.{take_at, drop_at, take_all, take_more_set, length-take, length-drop, drop-drop, drop-take, take-take, take-append-drop, get_or-take, get_or-drop}
-use Rattle.std.proofs.lemmas.Bool.{and_parts, eq-eqb, ne_eqb, eqb-true, cases_lt, cases_Bool, leb-true}
+use Rattle.std.proofs.lemmas.Bool.{cases_lt}
 use Rattle.iq_outside.specs.Devices.{block_of}
-use Rattle.iq_block_map.specs.Maps.{places, is_address, is_map, map_block}
-use Rattle.iq_block_map.specs.Refs.{MayBe}
+use Rattle.iq_block_map.specs.Maps.{places, is_address, is_map}
 use Rattle.iq_block_map.specs.Objects.{leaf_count, used_in, map_at, joined, front, listed}
-use Rattle.iq_block_map.specs.Writing.{holds, SameBeside}
-use Rattle.iq_block_map.specs.Editing.{piece, padded, fresh, EndsLeaf, StaysLeaf, MakesLeaf}
+use Rattle.iq_block_map.specs.Writing.{holds}
+use Rattle.iq_block_map.specs.Editing.{piece, fresh}
 use Rattle.iq_block_map.proofs.MapLemmas.{length-places}
-use Rattle.iq_block_map.proofs.LeafLemmas.{map_written}
 
 -- a map reads the same where its block is the same
 pub map_same : (all now : List (List ℕ)) (level used at : ℕ) → length now ≡ length all → block_of now at ≡ block_of all at

@@ -1,17 +1,17 @@
 -- The topmost map over leaves that were written where they changed.
-use Rattle.std.specs.Prelude.{◌≡◌, ◌≢◌, ◌⊎◌, ℕ, zero, suc, ◌+◌, ◌-◌, ◌*◌, ◌/◌, ◌^◌, ◌<◌, ◌≤◌, min, Bool, true, false, ◌&&◌, ◌||◌, List, [], ◌∷◌, ◌++◌, length, take, drop, replicate, nat_eq, nat_lt, nat_le, slice_index, slice_index_or, slice_set, if◌then◌else◌, Result, Ok, Err, Option, Some, None}
-use Rattle.std.specs.List.{All, list_all, list_any, flat_map}
-use Rattle.std.proofs.Common.{refl, sym, ap, subst, ◌∙◌, inl, inr, arith, append_assoc, append-nil, length-append, length-set, get_or-set_other, get_or-set_same}
-use Rattle.std.proofs.lemmas.List.{ext_get_or, get_or-take, get_or-drop, get_or_past, length-take, length-drop, drop_all, take_all, drop-drop, take-append-drop, take_more}
-use Rattle.std.proofs.lemmas.Bool.{and_parts, eq-eqb, ne_eqb, eqb-true, cases_lt, cases_eq, lt-ltb, le-ltb, le-leb, lt-leb}
+use Rattle.std.specs.Prelude.{◌≡◌, ◌≢◌, ℕ, zero, suc, ◌+◌, ◌*◌, ◌^◌, ◌<◌, ◌≤◌, Bool, true, false, List, [], ◌∷◌, ◌++◌, length, take, drop, nat_eq, slice_index, slice_set, if◌then◌else◌, Result, Ok, Err}
+use Rattle.std.specs.List.{All}
+use Rattle.std.proofs.Common.{refl, sym, ap, subst, ◌∙◌, inl, inr, arith, append_assoc, append-nil, length-set, get_or-set_other}
+use Rattle.std.proofs.lemmas.List.{ext_get_or, get_or-take, get_or-drop, get_or_past, length-take, take_all, take-append-drop}
+use Rattle.std.proofs.lemmas.Bool.{and_parts, eq-eqb, ne_eqb, cases_lt, lt-ltb, le-ltb, le-leb, lt-leb}
 use Rattle.iq_outside.specs.Devices.{block_of}
-use Rattle.iq_block_store.specs.Frames.{bytes_of}
 use Rattle.iq_block_map.specs.declared.refs.Ref.{Ref}
-use Rattle.iq_block_map.specs.Maps.{places, is_address, are_places, is_map, map_block}
+use Rattle.iq_block_map.specs.Maps.{is_address, map_block}
 use Rattle.iq_block_map.specs.Refs.{MayBe}
-use Rattle.iq_block_map.specs.Objects.{leaf_count, used_in, map_at, leaves_of, listed, listed_in, joined, top_of, addresses_of}
+use Rattle.iq_block_map.specs.Objects.{leaf_count, map_at, leaves_of, listed, listed_in, joined, top_of, addresses_of}
 use Rattle.iq_block_map.specs.Writing.{holds, SameBeside}
-use Rattle.iq_block_map.specs.Editing.{piece, padded, fresh, AreApart, IsOpened, HasLeaves, HasLeavesAt, HasRemapped, SharesMaps, OnlyLeaf, SameTop, NewTop, EndsTop, edited}
+use Rattle.iq_block_map.specs.Editing.{piece, fresh, AreApart, HasRemapped, edited}
+use Rattle.iq_block_map.specs.Leaves.{padded, HasLeaves, OnlyLeaf, SameTop, NewTop, EndsTop}
 use Rattle.iq_block_map.proofs.ObjectLemmas.{joined-nil}
 use Rattle.iq_block_map.proofs.PutLemmas.{holds-append}
 use Rattle.iq_block_map.proofs.LeafLemmas.{padded_of, map_written}
@@ -62,16 +62,19 @@ pub listed_from : (all : List (List ℕ)) (object : Ref) (ls xs : List ℕ) → 
     → addresses_of all object ≡ Ok xs → listed false all object.pages ls ≡ Ok xs
 listed_from all object ls xs leaves is = sym (addresses_from all object ls (listed false all object.pages ls) leaves refl) ∙ is
 
-leaves_one : (all : List (List ℕ)) (object : Ref) → 1 ≤ object.pages → object.pages ≤ 252 → leaves_of all object ≡ Ok (object.root ∷ [])
+pub leaves_one : (all : List (List ℕ)) (object : Ref) → 1 ≤ object.pages → object.pages ≤ 252 → leaves_of all object ≡ Ok (object.root ∷ [])
 leaves_one all object some few = rw (ne_eqb object.pages 0 (omega (arith, some)), le-leb object.pages 252 few) refl
 
-leaves_many : (all : List (List ℕ)) (object : Ref) → 252 < object.pages → leaves_of all object ≡ map_at all 2 (leaf_count object.pages) object.root
+pub leaves_none : (all : List (List ℕ)) (object : Ref) → object.pages ≡ 0 → leaves_of all object ≡ Ok []
+leaves_none all object none = rw (eq-eqb object.pages 0 none) refl
+
+pub leaves_many : (all : List (List ℕ)) (object : Ref) → 252 < object.pages → leaves_of all object ≡ map_at all 2 (leaf_count object.pages) object.root
 leaves_many all object many = rw (ne_eqb object.pages 0 (omega (arith, many)), lt-leb object.pages 252 many) refl
 
 top_none : (object : Ref) → object.pages ≤ 252 → top_of true object ≡ []
 top_none object few = rw (le-ltb 252 object.pages few) refl
 
-top_one : (object : Ref) → 252 < object.pages → top_of true object ≡ object.root ∷ []
+pub top_one : (object : Ref) → 252 < object.pages → top_of true object ≡ object.root ∷ []
 top_one object many = rw (lt-ltb 252 object.pages many) refl
 
 ref_same : (a b : Ref) → a.root ≡ b.root → a.pages ≡ b.pages → a ≡ b
@@ -292,7 +295,7 @@ remap_done all mid now old new ls ms xs ys before left after taken rebuilt size 
     done_new all mid now old new ls ms xs ys before left after taken rebuilt size made
 
 -- an object has as many pages as it says
-leaves_count : (all : List (List ℕ)) (object : Ref) (ls : List ℕ) → object.pages ≤ 63504 → leaves_of all object ≡ Ok ls → object.pages ≤ 252 * length ls
+pub leaves_count : (all : List (List ℕ)) (object : Ref) (ls : List ℕ) → object.pages ≤ 63504 → leaves_of all object ≡ Ok ls → object.pages ≤ 252 * length ls
 leaves_count all object ls few is = elim (cases_lt 252 object.pages) [
   | inl many ↦
       (let size : length ls ≡ leaf_count object.pages
@@ -303,6 +306,23 @@ leaves_count all object ls few is = elim (cases_lt 252 object.pages) [
         (let one : object.root ∷ [] ≡ ls = ok_is (object.root ∷ []) ls (leaves_of all object) (leaves_one all object (omega (arith, some)) less) is in
         omega (arith, less, ap length one))
     | inr none ↦ omega (arith, none)
+  ])
+]
+
+-- and no more leaves than these take
+pub leaves_fit : (all : List (List ℕ)) (object : Ref) (ls : List ℕ) → object.pages ≤ 63504 → leaves_of all object ≡ Ok ls → length ls ≤ leaf_count object.pages
+leaves_fit all object ls few is = elim (cases_lt 252 object.pages) [
+  | inl many ↦
+      (let size : length ls ≡ leaf_count object.pages
+      = length_map all 2 (leaf_count object.pages) object.root ls (sym (leaves_many all object many) ∙ is) (omega (arith, few)) in
+      omega (arith, size))
+  | inr less ↦ (elim (cases_lt 0 object.pages) [
+    | inl some ↦
+        (let one : object.root ∷ [] ≡ ls = ok_is (object.root ∷ []) ls (leaves_of all object) (leaves_one all object (omega (arith, some)) less) is in
+        omega (arith, some, ap length one))
+    | inr none ↦
+        (let no_one : [] ≡ ls = ok_is [] ls (leaves_of all object) (leaves_none all object (omega (arith, none))) is in
+        omega (arith, ap length no_one))
   ])
 ]
 

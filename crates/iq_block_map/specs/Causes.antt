@@ -1,5 +1,5 @@
 -- Why an object wasn't read or written.
-use Rattle.std.specs.Prelude.{◌≡◌, ◌⊎◌, ℕ, false, List, [], Result, Ok, Err, Option, Some}
+use Rattle.std.specs.Prelude.{◌≡◌, ◌⊎◌, ℕ, false, List, [], Ok, Err, Option, Some}
 use Rattle.iq_outside.specs.Faults.{RoseWithin}
 use Rattle.iq_outside.specs.Devices.{block_of}
 use Rattle.iq_block_store.specs.Frames.{has_header}
@@ -7,7 +7,7 @@ use Rattle.iq_block_map.specs.declared.refs.Ref.{Ref}
 use Rattle.iq_block_map.specs.declared.refs.MapFault.{MapFault}
 use Rattle.iq_block_map.specs.declared.refs.MapFault.TheVariants.{StoreFault, BadMap, NoSpace, NoMemory}
 use Rattle.iq_block_map.specs.Maps.{page_kind}
-use Rattle.iq_block_map.specs.Objects.{addresses_of, address_of}
+use Rattle.iq_block_map.specs.Objects.{address_of}
 
 -- only where the count of faults rose meanwhile
 abbrev pub IsStoreFault : MapFault → ℕ → ℕ → Type 0

@@ -5,3 +5,5 @@ pub mod Causes
 pub mod Takers
 pub mod Writing
 pub mod Editing
+pub mod Leaves
+pub mod Laws

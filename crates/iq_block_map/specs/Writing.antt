@@ -1,5 +1,5 @@
 -- What calls that write blocks change. A device is seen by five members, as in the outside.
-use Rattle.std.specs.Prelude.{◌≡◌, ◌⊎◌, ℕ, ◌≤◌, Bool, false, List, [], ◌∷◌, ◌++◌, length, nat_eq, Option, Some, None, slice_set}
+use Rattle.std.specs.Prelude.{◌≡◌, ℕ, ◌≤◌, Bool, false, List, ◌++◌, length, nat_eq, Option, Some, None}
 use Rattle.std.specs.List.{list_any}
 use Rattle.iq_outside.specs.Devices.{block_of, KeepsPast}
 use Rattle.iq_block_map.specs.Takers.{taken_of}

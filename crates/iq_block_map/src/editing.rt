@@ -1,11 +1,11 @@
 //! Writing an object anew, by maps that it shares with the old one where their pages are the same.
-ghost use Rattle.std.specs.Prelude.{◌≡◌, ◌≢◌, ◌⊎◌, ◌≤◌, ◌<◌, ◌*◌, ◌+◌, ◌-◌, ◌∷◌, ◌++◌, ℕ, true, false, List, [], Some, Ok, Err, length, take, drop, IfOk, IfErr, OnOk, IsTrue, IsFalse, slice_index, slice_set, nat_lt};
-ghost use Rattle.iq_block_map.specs.Maps.{is_address};
+ghost use Rattle.std.specs.Prelude.{◌≡◌, ◌≢◌, ◌⊎◌, ◌≤◌, ◌<◌, ◌*◌, ◌+◌, ◌-◌, ◌++◌, ℕ, List, Some, Ok, Err, length, take, IfOk, IfErr, IsTrue, IsFalse};
 ghost use Rattle.iq_block_map.specs.Refs.{IsIn, MayBe};
-ghost use Rattle.iq_block_map.specs.Objects.{leaf_count, used_in, map_at, leaves_of, addresses_of, pages_of};
+ghost use Rattle.iq_block_map.specs.Objects.{leaf_count, used_in, leaves_of, addresses_of};
 ghost use Rattle.iq_block_map.specs.Takers.{AreSpare};
 ghost use Rattle.iq_block_map.specs.Writing.{HasPut};
-ghost use Rattle.iq_block_map.specs.Editing.{below, replaced_from, edited, padded, leaf_at, AreChanges, AreBlocks, AreApart, new_blocks, HasRemapped, EndsLeaf, IsNowIn, IsBadMap, IsOpened, AreOpened, IsBadLeaf, HasLeaves, EndsTop};
+ghost use Rattle.iq_block_map.specs.Editing.{replaced_from, edited, AreChanges, AreBlocks, AreApart, new_blocks, HasRemapped, IsNowIn, IsBadMap};
+ghost use Rattle.iq_block_map.specs.Leaves.{below, padded, leaf_at, EndsLeaf, IsOpened, AreOpened, IsBadLeaf, HasLeaves, EndsTop};
 ghost use Rattle.iq_block_map.specs.Causes.{IsEditFault, IsReadFault, IsPutFault};
 ghost use Rattle.iq_block_store.specs.Looks.{HasLooked};
 ghost use Rattle.std.specs.List.{prefix_len};

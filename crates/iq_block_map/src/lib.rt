@@ -6,6 +6,7 @@
 #![tactic(auto)]
 
 mod editing;
+mod laws;
 mod maps;
 mod pages;
 mod reading;
@@ -16,6 +17,10 @@ mod tests;
 mod writing;
 
 pub use editing::remap;
+pub use laws::{
+    a_page_is_where_the_list_says, an_object_stands_on_what_it_reaches,
+    what_is_not_reached_is_apart,
+};
 pub use pages::{push, with_page};
 pub use reading::{addresses, blocks, page};
 pub use refs::{MapFault, Ref};

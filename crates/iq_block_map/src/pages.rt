@@ -1,10 +1,10 @@
 //! Writing one page of an object.
-ghost use Rattle.std.specs.Prelude.{◌≡◌, ◌⊎◌, ◌<◌, ◌≤◌, ◌+◌, ◌∷◌, ◌++◌, ℕ, List, [], Some, Ok, Err, length, drop, IfOk, IfErr, slice_set};
+ghost use Rattle.std.specs.Prelude.{◌≡◌, ◌⊎◌, ◌<◌, ◌+◌, ◌∷◌, ◌++◌, ℕ, List, [], Some, Ok, Err, IfOk, IfErr, slice_set};
 ghost use Rattle.iq_block_map.specs.Refs.{IsIn};
 ghost use Rattle.iq_block_map.specs.Objects.{leaves_of, addresses_of, pages_of};
 ghost use Rattle.iq_block_map.specs.Takers.{AreSpare};
 ghost use Rattle.iq_block_map.specs.Writing.{HasPut};
-ghost use Rattle.iq_block_map.specs.Editing.{AreApart, IsNowIn, IsBadMap};
+ghost use Rattle.iq_block_map.specs.Editing.{AreApart, IsNowIn, IsBadMap, PutsPage};
 ghost use Rattle.iq_block_map.specs.Causes.{IsEditFault};
 
 use crate::editing::remap;
@@ -30,6 +30,9 @@ pub fn with_page<D: Device, T: Taker>(
     ensures ok { IfOk result (λ new. (all : List (List ℕ)) (ps : List (List ℕ)) → D.blocks disk.old ≡ Some all
         → AreApart all object (T.left space.old) → pages_of all object ≡ Some ps
         → IsNowIn (λ now. pages_of now new ≡ Some (slice_set ps n from.now)) (D.blocks disk.new)) }
+    ensures maps { IfOk result (λ new. (all : List (List ℕ)) (xs : List ℕ) → D.blocks disk.old ≡ Some all
+        → AreApart all object (T.left space.old) → addresses_of all object ≡ Ok xs
+        → IsNowIn (λ now. PutsPage (λ at. slice_set xs n at) all now object new xs (T.left space.old) (T.left space.new)) (D.blocks disk.new)) }
     ensures pages { IfOk result (λ new. new.pages ≡ object.pages) }
     ensures cause { IfErr result (λ e. IsEditFault
         (λ b all. AreApart all object (T.left space.old) → (leaves_of all object ≡ Err b) ⊎ IsBadMap object b all)
@@ -54,6 +57,9 @@ pub fn push<D: Device, T: Taker>(
     ensures ok { IfOk result (λ new. (all : List (List ℕ)) (ps : List (List ℕ)) → D.blocks disk.old ≡ Some all
         → AreApart all object (T.left space.old) → pages_of all object ≡ Some ps
         → IsNowIn (λ now. pages_of now new ≡ Some (ps ++ from.now ∷ [])) (D.blocks disk.new)) }
+    ensures maps { IfOk result (λ new. (all : List (List ℕ)) (xs : List ℕ) → D.blocks disk.old ≡ Some all
+        → AreApart all object (T.left space.old) → addresses_of all object ≡ Ok xs
+        → IsNowIn (λ now. PutsPage (λ at. xs ++ at ∷ []) all now object new xs (T.left space.old) (T.left space.new)) (D.blocks disk.new)) }
     ensures pages { IfOk result (λ new. new.pages ≡ object.pages + 1) }
     ensures cause { IfErr result (λ e. IsEditFault
         (λ b all. AreApart all object (T.left space.old) → (leaves_of all object ≡ Err b) ⊎ IsBadMap object b all)

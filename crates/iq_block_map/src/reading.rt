@@ -1,8 +1,7 @@
 //! Reading objects.
-ghost use Rattle.std.specs.Prelude.{◌≡◌, ◌≤◌, ◌<◌, ◌^◌, ◌*◌, ◌+◌, ◌-◌, ◌++◌, ℕ, true, false, List, [], Some, Ok, Err, length, take, drop, IfOk, IfErr, OnOk, nat_eq, replicate};
-ghost use Rattle.std.specs.List.{list_all};
+ghost use Rattle.std.specs.Prelude.{◌≡◌, ◌≤◌, ◌<◌, ◌^◌, ◌*◌, ◌+◌, ◌-◌, ◌++◌, ℕ, true, false, List, Some, Ok, Err, length, take, IfOk, IfErr, OnOk};
 ghost use Rattle.iq_outside.specs.Devices.{block_of};
-ghost use Rattle.iq_block_store.specs.Frames.{has_header, payload_of};
+ghost use Rattle.iq_block_store.specs.Frames.{has_header};
 ghost use Rattle.iq_block_store.specs.Looks.{HasLooked};
 ghost use Rattle.iq_block_map.specs.Maps.{page_kind, places, is_map, is_address};
 ghost use Rattle.iq_block_map.specs.Objects.{leaf_count, used_in, map_at, leaves_of, addresses_of, blocks_of, walked, front, IsPageAt, HoldsPage};

@@ -1,6 +1,6 @@
 //! Writing blocks that were taken for it.
-ghost use Rattle.std.specs.Prelude.{◌≡◌, ◌⊎◌, ℕ, ◌∷◌, List, [], Some, IfOk, IfErr, slice_set};
-ghost use Rattle.iq_block_store.specs.Frames.{framed, map_kind};
+ghost use Rattle.std.specs.Prelude.{◌≡◌, ◌<◌, ◌^◌, ℕ, ◌∷◌, List, Some, IfOk, IfErr, slice_set};
+ghost use Rattle.iq_block_store.specs.Frames.{framed};
 ghost use Rattle.iq_block_map.specs.Takers.{AreSpare};
 ghost use Rattle.iq_block_map.specs.Writing.{HasPut};
 ghost use Rattle.iq_block_map.specs.Causes.{IsPutFault};
@@ -19,6 +19,7 @@ pub fn put<D: Device, T: Taker>(
 ) -> Result<u32, MapFault>
     requires spare { AreSpare (D.blocks disk.old) (T.left space.old) }
     ensures put { HasPut D.blocks D.faults D.tells D.clock D.image (T.left space.old) (T.left space.new) disk.old disk.new }
+    ensures fits { IfOk result (λ at. at < 2 ^ 32) }
     ensures left { IfOk result (λ at. T.left space.old ≡ at ∷ T.left space.new) }
     ensures block { IfOk result (λ at. (all : List (List ℕ)) → D.blocks disk.old ≡ Some all
         → D.blocks disk.new ≡ Some (slice_set all at (framed kind at level payload.now))) }

@@ -1,9 +1,10 @@
 -- The numbers of the set bits, as bits change.
-use Rattle.std.specs.Prelude.{◌≡◌, ◌⊎◌, ℕ, zero, suc, ◌+◌, ◌-◌, ◌<◌, ◌≤◌, ◌^◌, min, Bool, true, false, List, [], ◌∷◌, length, nat_lt, nat_eq, slice_set}
-use Rattle.std.proofs.Common.{refl, sym, ap, ◌∙◌, inl, inr, arith, length-set, get_or-set_same, get_or-set_other}
-use Rattle.std.proofs.lemmas.List.{set-get_or}
+use Rattle.std.specs.Prelude.{◌≡◌, ℕ, zero, suc, ◌+◌, ◌-◌, ◌<◌, ◌≤◌, ◌^◌, min, Bool, true, false, List, [], ◌∷◌, length, slice_set, replicate, All}
+use Rattle.std.proofs.Common.{refl, sym, ap, subst, ◌∙◌, inl, inr, arith, length-set, get_or-set_same, get_or-set_other}
+use Rattle.std.proofs.lemmas.List.{set-get_or, length-replicate}
+use Rattle.std.proofs.lemmas.List.Elements.{All-nil, All-cons}
 use Rattle.std.proofs.lemmas.Bool.{lt-ltb, le-ltb, eq-eqb, ne_eqb, cases_lt, cases_order}
-use Rattle.iq_free_list.specs.FreeList.{set_from, put, bit_of, IsHinted}
+use Rattle.iq_free_list.specs.FreeList.{free_of, set_from, put, bit_of, IsHinted, IsFirstSet, IsAscending}
 
 put_below : (b x : ℕ) (xs : List ℕ) → b < x → put b (x ∷ xs) ≡ b ∷ x ∷ xs
 put_below b x xs under = rw (lt-ltb b x under) refl
@@ -86,29 +87,37 @@ length-set_from s [] = omega arith
 length-set_from s (true ∷ bits) = omega (arith, length-set_from (s + 1) bits)
 length-set_from s (false ∷ bits) = omega (arith, length-set_from (s + 1) bits)
 
--- after a take the hint stands behind what was taken
-pub take_hinted : (bits : List Bool) (hint count i : ℕ) → IsHinted bits hint count → i < length bits → bit_of bits i ≡ true
-    → ((k : ℕ) → hint ≤ k → k < i → bit_of bits k ≡ false) → IsHinted (slice_set bits i false) (i + 1) (count - 1)
-take_hinted bits hint count i hinted within set between =
-    let before : (k : ℕ) → k < i → bit_of bits k ≡ false
-    = λ k under. elim (cases_lt k hint) [ inl early ↦ hinted.below k early | inr late ↦ between k late under ] in
-    record {
-      below = λ k under. elim (cases_order k i) [
-        | inl here ↦ rw here (get_or-set_same bits i false false within)
-        | inr apart ↦ (
-            let other : k ≡ i → ⊥ = λ same. omega (arith, apart, same) in
-            let under_i : k < i = omega (arith, under, apart) in
-            get_or-set_other bits i k false false other ∙ before k under_i)
-      ];
-      counted = omega (arith, hinted.counted, ap length (set_from_take bits i set before));
-      few = omega (arith, hinted.few, length-set bits i false);
-    }
+-- below the first set bit from the hint on no bit is set
+before_first : (bits : List Bool) (hint count i : ℕ) → IsHinted bits hint count → IsFirstSet bits hint i
+    → (k : ℕ) → k < i → bit_of bits k ≡ false
+before_first bits hint count i hinted first k under =
+    elim (cases_lt k hint) [ inl early ↦ hinted.below k early | inr late ↦ first.between k late under ]
 
--- a set bit counts
-pub take_counts : (bits : List Bool) (hint count i : ℕ) → IsHinted bits hint count → bit_of bits i ≡ true
-    → ((k : ℕ) → hint ≤ k → k < i → bit_of bits k ≡ false) → set_from 0 bits ≡ i ∷ set_from 0 (slice_set bits i false)
-take_counts bits hint count i hinted set between =
-    set_from_take bits i set (λ k under. elim (cases_lt k hint) [ inl early ↦ hinted.below k early | inr late ↦ between k late under ])
+-- where no bit is set from the hint on, no block is free
+pub take_none : (bits : List Bool) (hint count : ℕ) → IsHinted bits hint count → ((i : ℕ) → hint ≤ i → bit_of bits i ≡ false)
+    → set_from 0 bits ≡ []
+take_none bits hint count hinted none =
+    set_from_none 0 bits (λ i. elim (cases_lt i hint) [ inl early ↦ hinted.below i early | inr late ↦ none i late ])
+
+-- what is taken is the least, and the others stay
+pub take_first : (bits : List Bool) (hint count i : ℕ) → IsHinted bits hint count → IsFirstSet bits hint i
+    → set_from 0 bits ≡ i ∷ set_from 0 (slice_set bits i false)
+take_first bits hint count i hinted first = set_from_take bits i first.set (before_first bits hint count i hinted first)
+
+-- after a take the hint stands behind what was taken
+pub take_hinted : (bits : List Bool) (hint count i : ℕ) → IsHinted bits hint count → IsFirstSet bits hint i
+    → IsHinted (slice_set bits i false) (i + 1) (count - 1)
+take_hinted bits hint count i hinted first = record {
+  below = λ k under. elim (cases_order k i) [
+    | inl here ↦ rw here (get_or-set_same bits i false false first.within)
+    | inr apart ↦ (
+        let other : k ≡ i → ⊥ = λ same. omega (arith, apart, same) in
+        let under_i : k < i = omega (arith, under, apart) in
+        get_or-set_other bits i k false false other ∙ before_first bits hint count i hinted first k under_i)
+  ];
+  counted = omega (arith, hinted.counted, ap length (take_first bits hint count i hinted first));
+  few = omega (arith, hinted.few, length-set bits i false);
+}
 
 -- after a give the hint stands no higher than what was given
 pub give_hinted : (bits : List Bool) (hint count i : ℕ) → IsHinted bits hint count → i < length bits → bit_of bits i ≡ false
@@ -126,3 +135,55 @@ give_hinted bits hint count i hinted within clear = record {
 pub give_fits : (bits : List Bool) (hint count i : ℕ) → IsHinted bits hint count → i < length bits → bit_of bits i ≡ false → count + 1 < 2 ^ 32
 give_fits bits hint count i hinted within clear =
     omega (arith, hinted.counted, hinted.few, length_give 0 bits i within clear, length-set_from 0 (slice_set bits i true), length-set bits i true)
+
+-- all numbers are past those before the first bit
+above_set_from : (n s : ℕ) (bits : List Bool) → n < s → All (λ b. n < b) (set_from s bits)
+above_set_from n s [] under = All-nil (λ b. n < b)
+above_set_from n s (true ∷ bits) under =
+    All-cons (λ b. n < b) s (set_from (s + 1) bits) under (above_set_from n (s + 1) bits (omega (arith, under)))
+above_set_from n s (false ∷ bits) under = above_set_from n (s + 1) bits (omega (arith, under))
+
+-- the numbers are in ascending order
+pub ascending_set_from : (s : ℕ) (bits : List Bool) → IsAscending (set_from s bits)
+ascending_set_from s [] = tt
+ascending_set_from s (true ∷ bits) = (above_set_from s (s + 1) bits (omega arith), ascending_set_from (s + 1) bits)
+ascending_set_from s (false ∷ bits) = ascending_set_from (s + 1) bits
+
+-- each number is that of a bit
+within_set_from : (s n : ℕ) (bits : List Bool) → s + length bits ≤ n → All (λ b. b < n) (set_from s bits)
+within_set_from s n [] fits = All-nil (λ b. b < n)
+within_set_from s n (true ∷ bits) fits =
+    All-cons (λ b. b < n) s (set_from (s + 1) bits) (omega (arith, fits)) (within_set_from (s + 1) n bits (omega (arith, fits)))
+within_set_from s n (false ∷ bits) fits = within_set_from (s + 1) n bits (omega (arith, fits))
+
+pub set_from_within : (bits : List Bool) → All (λ b. b < length bits) (set_from 0 bits)
+set_from_within bits = within_set_from 0 (length bits) bits (omega arith)
+
+-- the first of an ascending list is less than the others
+pub first_ascending : (block : ℕ) (blocks rest : List ℕ) → IsAscending blocks → blocks ≡ block ∷ rest → All (λ b. block < b) rest
+first_ascending block blocks rest ascending first = (subst IsAscending first ascending).0
+
+-- what is left after a take is past what was taken
+pub take_past : (bits : List Bool) (hint count i : ℕ) → IsHinted bits hint count → IsFirstSet bits hint i
+    → All (λ b. i < b) (set_from 0 (slice_set bits i false))
+take_past bits hint count i hinted first =
+    first_ascending i (set_from 0 bits) (set_from 0 (slice_set bits i false)) (ascending_set_from 0 bits)
+    (take_first bits hint count i hinted first)
+
+-- of bits that are all clear none is a number
+pub set_from_clear : (s n : ℕ) → set_from s (replicate n false) ≡ []
+set_from_clear s zero = refl
+set_from_clear s (suc n) = set_from_clear (s + 1) n
+
+pub clear_hinted : (n : ℕ) → n < 2 ^ 32 → IsHinted (replicate n false) 0 0
+clear_hinted n fits = record {
+  below = λ i under. absurd (omega (arith, under));
+  counted = sym (ap length (set_from_clear 0 n));
+  few = omega (arith, fits, length-replicate n false);
+}
+
+pub free_of_clear : (n : ℕ) (bits : List Bool) → bits ≡ replicate n false → free_of bits ≡ record { count = n; blocks = [] }
+free_of_clear n bits clear =
+    let counted : length bits ≡ n = ap length clear ∙ length-replicate n false in
+    let none : set_from 0 bits ≡ [] = ap (set_from 0) clear ∙ set_from_clear 0 n in
+    rw (counted, none) refl

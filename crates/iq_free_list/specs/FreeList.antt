@@ -1,16 +1,25 @@
 -- What a list of free blocks is.
-use Rattle.std.specs.Prelude.{◌≡◌, ℕ, suc, ◌+◌, ◌<◌, Bool, true, false, List, [], ◌∷◌, length, fold, nat_lt, nat_eq, ◌^◌, if◌then◌else◌, slice_index_or}
+use Rattle.std.specs.Prelude.{◌≡◌, ℕ, ◌+◌, ◌<◌, ◌≤◌, Bool, true, false, List, [], ◌∷◌, length, fold, nat_lt, nat_eq, ◌^◌, if◌then◌else◌, slice_index_or, All}
 
 -- how many blocks there are, and the free ones in ascending order
 pub record Free : Type 0 where
   pub count : ℕ
   pub blocks : List ℕ
 
+-- each number is less than all that follow, so that none stands twice
+abbrev pub IsAscending : List ℕ → Type 0
+IsAscending [] = Unit {0}
+IsAscending (block ∷ blocks) = All (λ b. block < b) blocks × IsAscending blocks
+
 -- the numbers of the set bits, from a number on
 abbrev pub set_from : ℕ → List Bool → List ℕ
 set_from i [] = []
 set_from i (true ∷ bits) = i ∷ set_from (i + 1) bits
 set_from i (false ∷ bits) = set_from (i + 1) bits
+
+-- so many bits, and the numbers of those that are set
+abbrev pub free_of : List Bool → Free
+free_of bits = record { count = length bits; blocks = set_from 0 bits }
 
 -- a number put into its place in an ascending list, where it isn't in it yet
 abbrev pub put : ℕ → List ℕ → List ℕ
@@ -24,6 +33,13 @@ put_all blocks xs = fold (λ (ys : List ℕ) (block : ℕ). put block ys) xs blo
 -- a bit, which is not set past the end
 abbrev pub bit_of : List Bool → ℕ → Bool
 bit_of bits i = slice_index_or bits i false
+
+-- the first set bit from a place on
+pub record IsFirstSet (bits : List Bool) (from found : ℕ) : Type 0 where
+  pub since : from ≤ found
+  pub within : found < length bits
+  pub set : bit_of bits found ≡ true
+  pub between : (i : ℕ) → from ≤ i → i < found → bit_of bits i ≡ false
 
 -- no bit below the hint is set, and so many are set
 pub record IsHinted (bits : List Bool) (hint count : ℕ) : Type 0 where

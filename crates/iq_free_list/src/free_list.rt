@@ -1,8 +1,8 @@
 //! The list of free blocks.
-ghost use Rattle.std.specs.Prelude.{◌≡◌, ◌<◌, ◌-◌, [], ◌∷◌, length, take, drop, min, IfOk, MatchOption, IfSome, IsTrue, ◌↔◌};
-ghost use Rattle.iq_free_list.specs.FreeList.{put, put_all};
+ghost use Rattle.std.specs.Prelude.{◌≡◌, ◌<◌, [], ◌∷◌, length, take, drop, min, All, IfOk, MatchOption, IfSome, IsTrue, ◌↔◌};
+ghost use Rattle.iq_free_list.specs.FreeList.{put, put_all, IsAscending};
 
-use crate::bits::first_from;
+use crate::bits::{first_from, is_set};
 use iq_base::NoMemory;
 use std::alloc::Global;
 use std::marker::Model;
@@ -17,12 +17,11 @@ pub struct FreeList {
 }
 
 impl Model for FreeList {
-    ghost use Rattle.std.specs.Prelude.{vec_len};
-    ghost use Rattle.iq_free_list.specs.FreeList.{Free, IsHinted, set_from};
+    ghost use Rattle.iq_free_list.specs.FreeList.{Free, IsHinted, free_of};
 
     ghost Value = { Free };
 
-    ghost view = { λ f. record { count = vec_len f.bits; blocks = set_from 0 f.bits.items } };
+    ghost view = { λ f. free_of f.bits.items };
 
     ghost invariant = { λ f. IsHinted f.bits.items f.hint f.len };
 }
@@ -45,18 +44,20 @@ impl FreeList {
         ensures least { MatchOption result
             ((self.old.blocks ≡ []) × (self.new.blocks ≡ []))
             (λ block. self.old.blocks ≡ block ∷ self.new.blocks) }
+        ensures first { IfSome result (λ block. All (λ b. block < b) self.new.blocks) }
         ensures below { IfSome result (λ block. block < self.old.count) }
         ensures count { self.new.count ≡ self.old.count }
     {
-        match first_from(&self.bits, self.hint) {
-            None => None,
-            Some(i) => {
-                self.bits[i] = false;
-                self.hint = i + 1;
-                self.len -= 1;
-                Some(i as u32)
-            }
+        if self.len == 0 {
+            return None;
         }
+        let Some(i) = first_from(&self.bits, self.hint) else {
+            return None;
+        };
+        self.bits[i] = false;
+        self.hint = i + 1;
+        self.len -= 1;
+        Some(i as u32)
     }
 
     /// Moves the least blocks into another list of as many, at most so many of them, and answers how many. It takes no
@@ -69,15 +70,13 @@ impl FreeList {
         ensures count { self.new.count ≡ self.old.count }
         ensures count_into { into.new.count ≡ into.old.count }
     {
-        let mut moved = 0;
-        'moving: while moved < n {
+        for moved in 0..n {
             match self.take() {
                 None => return moved,
                 Some(block) => into.give(block),
             }
-            moved += 1;
         }
-        moved
+        n
     }
 
     /// Makes a block free. One that is free already stays so. It takes no memory.
@@ -87,16 +86,20 @@ impl FreeList {
         ensures count { self.new.count ≡ self.old.count }
     {
         let i = block as usize;
-        if !self.bits[i] {
-            self.bits[i] = true;
-            self.hint = self.hint.min(i);
-            self.len += 1;
+        if is_set(&self.bits, i) {
+            return;
         }
+        self.bits[i] = true;
+        self.hint = self.hint.min(i);
+        self.len += 1;
     }
 
     /// How many blocks are free.
     pub fn len(&self) -> u32
-        ensures { result ≡ length self.now.blocks }
+        ensures value { result ≡ length self.now.blocks }
+        // Each free block is counted once, and is one of the blocks that there are.
+        ensures once { IsAscending self.now.blocks }
+        ensures within { All (λ b. b < self.now.count) self.now.blocks }
     {
         self.len
     }

@@ -1,6 +1,6 @@
 //! The tests of rows and of names of columns: what a statement names must be there, and what it puts must fit.
 ghost use Rattle.std.specs.Prelude.{◌≡◌, ◌<◌, ◌^◌, length, Some};
-ghost use Rattle.iq_model.specs.Statements.{column_place, item_column, no_column, first_no_column, fits_int, fits_big, number_cause, text_cause, field_cause, bad_field, first_bad_field, bad_row, first_bad_row};
+ghost use Rattle.iq_model.specs.Statements.{column_place, item_column, no_column, first_no_column, fits_int, fits_big, number_cause, text_cause, field_cause, first_bad_field, bad_row, first_bad_row};
 
 use iq_ast::Item;
 use iq_base::{Column, FieldCause, Kind, Name, Refusal, Row, Text, Value};

@@ -10,6 +10,8 @@ mod locking;
 mod projection;
 mod replies;
 mod scripts;
+#[cfg(test)]
+mod tests;
 
 pub use checks::{column_place, first_bad_row, first_no_column};
 pub use locking::names_of;

@@ -1,15 +1,13 @@
 -- Tests of a statement where one session runs: nothing is locked by another, nothing was written later.
-use Rattle.std.proofs.Common.{◌≡◌, ℕ, ◌+◌, Bool, true, false, List, [], ◌∷◌, ◌++◌, refl, sym, ◌∙◌, ap, subst, arith, Option, Some, None, nat_eq, nat_lt, ◌≤◌, find, cond}
+use Rattle.std.proofs.Common.{◌≡◌, ℕ, Bool, true, false, List, [], ◌∷◌, ◌++◌, refl, sym, ◌∙◌, ap, arith, Option, Some, None, nat_lt, ◌≤◌, find, cond}
 use Rattle.std.proofs.lemmas.Bool.Decides.{nat_tests}
 use Rattle.std.specs.Option.{option_or}
 use Rattle.std.specs.List.{AllByRecursion}
 use Rattle.iq_base.specs.declared.names.Name.{Name}
-use Rattle.iq_base.specs.declared.refusals.Refusal.{Refusal}
 use Rattle.iq_ast.specs.declared.statements.Statement.{Statement}
 use Rattle.iq_model.specs.Tables.{Database, same_name}
-use Rattle.iq_model.specs.Statements.{Check, first_refusal, statement_checks, room_checks}
-use Rattle.iq_model.specs.State.{Desk, Run, Written, State, NodeState, commit_of, latest_of, holder_from, first_locked, first_later, lock_checks, not_held, locks}
-use Rattle.iq_model.specs.History.{checks_to_lock, checks_of}
+use Rattle.iq_model.specs.Statements.{Check, first_refusal}
+use Rattle.iq_model.specs.State.{Desk, Run, Written, NodeState, commit_of, latest_of, first_locked, first_later, lock_checks, not_held, locks}
 use Rattle.iq_plex.specs.Sound.{only_state, IsWrittenBy}
 
 option_or-assoc : {X : Type 0} (a b c : Option X) → option_or (option_or a b) c ≡ option_or a (option_or b c)

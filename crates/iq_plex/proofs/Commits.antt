@@ -1,24 +1,22 @@
 -- The commit of a statement's transaction is what the transaction sees.
-use Rattle.std.proofs.Common.{◌≡◌, ◌≢◌, ℕ, ◌+◌, Bool, true, false, List, [], ◌∷◌, ◌++◌, refl, sym, ◌∙◌, ap, subst, arith, Option, Some, None, nat_eq, filter, find, fold, cond, length, map}
-use Rattle.std.specs.Prelude.{nat_lt, nat_le, is_some, is_none}
+use Rattle.std.proofs.Common.{◌≡◌, Bool, true, false, List, [], ◌∷◌, ◌++◌, refl, sym, ◌∙◌, ap, subst, Option, Some, None, cond, length}
+use Rattle.std.specs.Prelude.{nat_le, is_some}
 use Rattle.std.specs.Ordering.{nat_cmp, is_gt}
 use Rattle.std.specs.Option.{option_or}
 use Rattle.std.specs.Cmp.Lexicographic.{slice_cmp}
 use Rattle.iq_base.specs.declared.names.Name.{Name}
 use Rattle.iq_base.specs.declared.values.Value.{Value}
-use Rattle.iq_base.specs.declared.schemas.Column.{Column}
 use Rattle.iq_base.specs.declared.schemas.Schema.{Schema}
-use Rattle.iq_base.specs.declared.refusals.Refusal.{Refusal}
 use Rattle.iq_base.specs.declared.refusals.Refusal.TheVariants as refusals
 use Rattle.iq_base.specs.Locks.{catalog_name}
-use Rattle.iq_ast.specs.Words.{is_reserved, IsName}
+use Rattle.iq_ast.specs.Words.{is_reserved}
 use Rattle.iq_ast.specs.Built.{IsBuilt, IsBuiltWrite}
 use Rattle.iq_ast.specs.declared.statements.Statement.{Statement}
 use Rattle.iq_ast.specs.declared.statements.Statement.TheVariants as statements
 use Rattle.iq_ast.specs.declared.statements.Write.{Write}
 use Rattle.iq_ast.specs.declared.statements.Write.TheVariants as writes
-use Rattle.iq_model.specs.Tables.{Table, Database, same_name, table_of, placed, replaced, put_table, with_rows, empty_table}
-use Rattle.iq_model.specs.Statements.{Check, first_refusal, found_if, insert_checks, room_check, statement_checks, room_checks, tables_after, inserted, most_tables}
+use Rattle.iq_model.specs.Tables.{Table, Database, same_name, table_of, placed, replaced, with_rows, empty_table}
+use Rattle.iq_model.specs.Statements.{first_refusal, found_if, insert_checks, room_check, statement_checks, room_checks, tables_after, inserted, most_tables}
 use Rattle.iq_model.specs.State.{Work, committed, written_names, locks}
 use Rattle.iq_model.specs.History.{takes_effect}
 use Rattle.iq_plex.proofs.Names.{same_name-refl, same_name-true, not_catalog}

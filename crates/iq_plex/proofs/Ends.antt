@@ -1,20 +1,18 @@
 -- The steps that end a line: it is refused, its transaction commits, or it ends without a number.
-use Rattle.std.proofs.Common.{◌≡◌, ◌≢◌, ℕ, zero, suc, ◌+◌, ◌*◌, Bool, true, false, List, [], ◌∷◌, ◌++◌, length, refl, sym, ◌∙◌, ap, subst, arith, Option, Some, None, ◌≤◌, ◌<◌, ◌⊎◌, inl, inr, drop, map}
-use Rattle.std.specs.Prelude.{IsSomeAnd}
-use Rattle.std.specs.List.{AllByRecursion, slice_get}
+use Rattle.std.proofs.Common.{◌≡◌, ◌≢◌, ℕ, ◌+◌, ◌*◌, List, [], ◌∷◌, ◌++◌, length, refl, sym, ◌∙◌, ap, subst, arith, Option, Some, None, ◌≤◌, inl, inr, drop, map}
+use Rattle.std.specs.List.{AllByRecursion}
 use Rattle.std.specs.Option.{option_or}
 use Rattle.iq_base.specs.declared.names.Name.{Name}
 use Rattle.iq_base.specs.declared.refusals.Refusal.{Refusal}
-use Rattle.iq_base.specs.declared.refusals.Refusal.TheVariants as refusals
 use Rattle.iq_ast.specs.declared.statements.Statement.{Statement}
 use Rattle.iq_history.specs.declared.entries.Entry.TheVariants as entries
 use Rattle.iq_model.specs.declared.scripts.Line.{Line}
 use Rattle.iq_model.specs.Scripts.{IsRunnableLine}
 use Rattle.iq_model.specs.Tables.{Database}
 use Rattle.iq_model.specs.Statements.{first_refusal, statement_checks, room_checks}
-use Rattle.iq_model.specs.State.{Stage, fresh, begun, locked, done, Work, Run, Standing, idle, lost, running, NodeState, Written, State, Desk, committed, lock_checks, written_at, moved_to}
-use Rattle.iq_model.specs.History.{IsOpen, IsRunning, IsCause, IsRefusal, DeskIs, IsPossible, change, checks_to_lock, checks_of}
-use Rattle.iq_plex.specs.Plex.{desk_of, HasRoomCause, MayRefuse, MayRefuseAt, CanRefuseLine}
+use Rattle.iq_model.specs.State.{Stage, fresh, begun, locked, done, Run, Standing, idle, lost, running, NodeState, Written, State, Desk, committed, lock_checks, written_at, moved_to}
+use Rattle.iq_model.specs.History.{IsRunning, IsCause, IsRefusal, IsPossible, change, checks_to_lock, checks_of}
+use Rattle.iq_plex.specs.Plex.{desk_of, MayRefuse, MayRefuseAt, CanRefuseLine}
 use Rattle.iq_plex.specs.Sound.{only_state, seen_by, used, Sees, IsStanding, IsWrittenBy, IsSound, started}
 use Rattle.iq_plex.proofs.Checks.{first_refusal-append, lock_checks-one}
 use Rattle.iq_plex.proofs.Steps.{OnDesk, on_desk, Facts, facts_of, shape_of, through, room_after, built_after}

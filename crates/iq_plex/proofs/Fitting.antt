@@ -1,5 +1,5 @@
 -- Rows in which nothing is wrong fit the columns.
-use Rattle.std.proofs.Common.{◌≡◌, ℕ, zero, suc, ◌+◌, ◌<◌, Bool, true, false, List, [], ◌∷◌, length, Option, Some, None, cond, refl, sym, ◌∙◌, ap, subst, arith, ℤ, pos, negsuc, rules, nat_eq}
+use Rattle.std.proofs.Common.{◌≡◌, ℕ, zero, suc, ◌+◌, ◌<◌, Bool, true, false, List, [], ◌∷◌, length, Option, Some, None, cond, refl, arith, ℤ, pos, negsuc, nat_eq}
 use Rattle.std.specs.Prelude.{FitsSigned, nat_lt, nat_le}
 use Rattle.std.specs.Int.{w32, w64}
 use Rattle.std.specs.Option.{option_or}
@@ -12,10 +12,9 @@ use Rattle.iq_base.specs.declared.values.Kind.TheVariants as kinds
 use Rattle.iq_base.specs.declared.schemas.Column.{Column}
 use Rattle.iq_base.specs.declared.refusals.FieldCause.{FieldCause}
 use Rattle.iq_base.specs.declared.refusals.FieldCause.TheVariants as causes
-use Rattle.iq_base.specs.declared.refusals.Refusal.{Refusal}
 use Rattle.iq_base.specs.declared.refusals.Refusal.TheVariants as refusals
 use Rattle.iq_base.specs.Cells.{IsOf}
-use Rattle.iq_table.specs.Layout.{value_at, row_at}
+use Rattle.iq_table.specs.Layout.{value_at}
 use Rattle.iq_table.specs.Table.{kind_at, IsRowOf, AreRowsOf}
 use Rattle.iq_model.specs.Statements.{fits_int, fits_big, number_cause, text_cause, field_cause, bad_field, first_bad_field, bad_row, first_bad_row}
 

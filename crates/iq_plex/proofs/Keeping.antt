@@ -1,5 +1,5 @@
 -- Each entry keeps what the shared state keeps.
-use Rattle.std.proofs.Common.{◌≡◌, ◌≢◌, ℕ, ◌+◌, ◌*◌, map, ◌≤◌, ◌<◌, ◌^◌, List, [], ◌∷◌, ◌++◌, length, refl, sym, ◌∙◌, ap, subst, arith, Option, Some, None, length-append}
+use Rattle.std.proofs.Common.{◌≡◌, ℕ, ◌+◌, map, ◌<◌, ◌^◌, List, [], ◌∷◌, ◌++◌, length, refl, sym, ◌∙◌, ap, subst, arith, Some, None, length-append}
 use Rattle.iq_base.specs.declared.names.Name.{Name}
 use Rattle.iq_base.specs.declared.nodes.NodeKind.TheVariants.{Coordinator}
 use Rattle.iq_base.specs.declared.nodes.SessionSpec.{SessionSpec}
@@ -9,16 +9,15 @@ use Rattle.iq_history.specs.declared.entries.Entry.{Entry}
 use Rattle.iq_history.specs.declared.entries.Entry.TheVariants as entries
 use Rattle.iq_history.specs.State.{HistoryState, IsPushed}
 use Rattle.iq_model.specs.Scripts.{IsRunnable}
-use Rattle.iq_model.specs.State.{fresh}
 use Rattle.iq_model.specs.declared.scripts.Script.{Script}
 use Rattle.iq_model.specs.Tables.{Database}
 use Rattle.iq_model.specs.Statements.{first_refusal, statement_checks, room_checks, tables_after}
-use Rattle.iq_model.specs.State.{State, Desk, Run, Standing, idle, lost, running, Stage, not_held, locks, NodeState, Written, start}
+use Rattle.iq_model.specs.State.{State, Desk, Run, Standing, idle, lost, running, Stage, NodeState, Written, start}
 use Rattle.iq_model.specs.declared.scripts.Line.{Line}
-use Rattle.iq_model.specs.History.{IsPossible, IsLegal, DeskIs, IsOpen, IsRunning, CanTake, CanBegin, change, replay}
+use Rattle.iq_model.specs.History.{IsPossible, IsLegal, DeskIs, CanBegin, change, replay}
 use Rattle.iq_model.proofs.Replay.{replay-snoc, IsLegal-snoc, replies-snoc}
 use Rattle.iq_plex.specs.declared.stored.Stored.{Stored}
-use Rattle.iq_plex.specs.Plex.{IsOpened, CanBeginLine, AsksBegin, PlexState, state_of, replies_of, IsNext, CanLockLine, CanRefuseLine, CanTakeLine, HoldsLine, AsksHeld, AsksTake, IsGranted, desk_of, IsAt, OfSeen}
+use Rattle.iq_plex.specs.Plex.{IsOpened, CanBeginLine, AsksBegin, replies_of, IsNext, CanLockLine, CanRefuseLine, CanTakeLine, HoldsLine, AsksHeld, AsksTake, IsGranted, desk_of, OfSeen}
 use Rattle.iq_plex.specs.Sound.{IsSound, only_state, seen_by}
 use Rattle.iq_plex.specs.Stored.{StandFor}
 use Rattle.iq_plex.specs.Kept.{IsKept, IsReadyFor}

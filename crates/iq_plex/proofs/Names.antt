@@ -1,12 +1,11 @@
 -- Names and look-ups by them.
-use Rattle.std.proofs.Common.{◌≡◌, ◌≢◌, ℕ, ◌+◌, Bool, true, false, List, [], ◌∷◌, ◌++◌, refl, sym, ◌∙◌, ap, subst, arith, Option, Some, None, nat_eq, nat_lt, filter, find, ◌≤◌}
-use Rattle.std.specs.Cmp.Lexicographic.{pointwise, same_text}
+use Rattle.std.proofs.Common.{◌≡◌, ℕ, Bool, true, false, List, [], ◌∷◌, refl, sym, ◌∙◌, ap, arith, nat_eq}
+use Rattle.std.specs.Cmp.Lexicographic.{same_text}
 use Rattle.std.proofs.lemmas.Bool.Decides.{nat_tests}
-use Rattle.iq_base.specs.declared.names.Name.{Name}
 use Rattle.iq_base.specs.Locks.{catalog_name}
-use Rattle.iq_ast.specs.Words.{reserved, is_reserved, IsName}
+use Rattle.iq_ast.specs.Words.{reserved, is_reserved}
 use Rattle.iq_model.specs.Tables.{same_name}
-use Rattle.iq_model.specs.State.{is_held, not_held}
+use Rattle.iq_model.specs.State.{not_held}
 
 pub nat_eq-refl : (n : ℕ) → nat_eq n n ≡ true
 nat_eq-refl n = grind (arith, nat_tests)

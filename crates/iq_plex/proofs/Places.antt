@@ -1,5 +1,5 @@
 -- No refusal that a statement finds names a session.
-use Rattle.std.proofs.Common.{◌≡◌, ◌≢◌, ℕ, suc, zero, ◌+◌, ◌<◌, Bool, true, false, List, [], ◌∷◌, ◌++◌, length, refl, sym, ◌∙◌, ap, subst, arith, Option, Some, None, nat_eq, ◌⊎◌, inl, inr}
+use Rattle.std.proofs.Common.{◌≡◌, ℕ, ◌+◌, Bool, true, false, List, [], ◌∷◌, ◌++◌, length, refl, sym, ap, subst, Option, Some, None, nat_eq, inl, inr}
 use Rattle.std.specs.Prelude.{IfSome, IsSomeAnd, is_some, is_none, nat_lt, nat_le, cond}
 use Rattle.std.specs.Option.{option_or}
 use Rattle.std.specs.List.{slice_get}
@@ -22,8 +22,8 @@ use Rattle.iq_model.specs.declared.scripts.Deed.{Deed}
 use Rattle.iq_model.specs.declared.scripts.Deed.TheVariants as deeds
 use Rattle.iq_model.specs.Tables.{Database, Table, table_of}
 use Rattle.iq_model.specs.Statements.{Check, first_refusal, found_if, column_place, item_column, no_column, first_no_column, field_cause, bad_field, first_bad_field, bad_row, first_bad_row, most_tables, insert_checks, select_checks, write_checks, statement_checks, room_check, room_checks}
-use Rattle.iq_model.specs.State.{Stage, fresh, begun, locked, done, Desk, Run, State, Standing, idle, lost, running}
-use Rattle.iq_model.specs.History.{DeskIs, DeedIs, LineIs, IsOpen, IsRunning}
+use Rattle.iq_model.specs.State.{Stage, fresh, begun, locked, done, Desk, State, Standing, idle, lost, running}
+use Rattle.iq_model.specs.History.{DeedIs, LineIs, IsRunning}
 use Rattle.iq_plex.specs.Plex.{MayRefuse, MayRefuseAt, CanRefuseLine}
 
 -- a refusal that is found, if any, names no session

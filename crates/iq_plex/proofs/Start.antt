@@ -1,9 +1,9 @@
 -- The state before the first entry is sound.
-use Rattle.std.proofs.Common.{◌≡◌, ℕ, ◌+◌, ◌*◌, ◌≤◌, Bool, true, false, List, [], ◌∷◌, length, refl, sym, ◌∙◌, ap, subst, arith, Some, filter}
+use Rattle.std.proofs.Common.{◌≡◌, ℕ, ◌*◌, ◌≤◌, List, [], ◌∷◌, length, refl, ap, arith, filter}
 use Rattle.std.specs.List.{AllByRecursion}
 use Rattle.iq_model.specs.declared.scripts.Line.{Line}
 use Rattle.iq_model.specs.declared.scripts.Script.{Script}
-use Rattle.iq_model.specs.Scripts.{IsRunnable, IsRunnableLine, the_node, the_session}
+use Rattle.iq_model.specs.Scripts.{IsRunnable, IsRunnableLine, the_node}
 use Rattle.iq_model.specs.Tables.{Database}
 use Rattle.iq_model.specs.State.{fresh, idle, node_start, is_of, State, start}
 use Rattle.iq_plex.specs.Plex.{desk_of}

@@ -1,22 +1,18 @@
 -- What an entry that is possible leaves of a sound state.
-use Rattle.std.proofs.Common.{◌≡◌, ◌≢◌, ℕ, zero, suc, ◌+◌, ◌*◌, Bool, true, false, List, [], ◌∷◌, ◌++◌, length, refl, sym, ◌∙◌, ap, subst, arith, Option, Some, None, nat_eq, nat_lt, ◌≤◌, ◌<◌, ◌⊎◌, inl, inr, map, ⊎_elim}
-use Rattle.std.specs.Prelude.{IsSomeAnd, unwrap_or}
-use Rattle.std.specs.List.{slice_get, AllByRecursion}
-use Rattle.iq_base.specs.declared.names.Name.{Name}
+use Rattle.std.proofs.Common.{◌≡◌, ℕ, zero, suc, ◌+◌, ◌*◌, List, [], ◌∷◌, length, refl, sym, ◌∙◌, ap, subst, arith, ◌≤◌, ◌<◌}
+use Rattle.std.specs.List.{AllByRecursion}
 use Rattle.iq_base.specs.declared.nodes.NodeKind.TheVariants.{Coordinator}
-use Rattle.iq_base.specs.declared.refusals.Refusal.{Refusal}
 use Rattle.iq_ast.specs.declared.statements.Statement.{Statement}
-use Rattle.iq_history.specs.declared.entries.Entry.{Entry}
 use Rattle.iq_history.specs.declared.entries.Entry.TheVariants as entries
 use Rattle.iq_model.specs.declared.scripts.Line.{Line}
 use Rattle.iq_model.specs.declared.scripts.Deed.{Deed}
 use Rattle.iq_model.specs.declared.scripts.Deed.TheVariants as deeds
-use Rattle.iq_model.specs.Tables.{Database, same_name}
-use Rattle.iq_model.specs.State.{Stage, fresh, begun, locked, done, Work, Run, Standing, idle, lost, running, Desk, NodeState, Written, State, database_of, position_of, node_position, committed, written_names, written_at, with_commit}
-use Rattle.iq_model.specs.History.{CanBegin, DeskIs, DeedIs, LineIs, IsOpen, IsRunning, IsPossible, change, begin_run, begins, ended, holds_more, line_takes}
+use Rattle.iq_model.specs.Tables.{Database}
+use Rattle.iq_model.specs.State.{Stage, fresh, begun, locked, done, Standing, idle, running, Desk, NodeState, Written, State, position_of}
+use Rattle.iq_model.specs.History.{CanBegin, DeskIs, DeedIs, LineIs, IsPossible, change, begin_run}
 use Rattle.iq_plex.specs.Plex.{desk_of}
 use Rattle.iq_model.specs.Scripts.{IsRunnableLine}
-use Rattle.iq_plex.specs.Sound.{only_state, seen_by, used, Sees, IsStanding, IsWrittenBy, IsSound, started}
+use Rattle.iq_plex.specs.Sound.{only_state, seen_by, used, IsStanding, IsWrittenBy, IsSound, started}
 use Rattle.iq_plex.proofs.Names.{nat_eq-refl}
 
 -- an entry of the one session: its line is the first that is left, and a statement of which P holds

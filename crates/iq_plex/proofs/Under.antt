@@ -1,5 +1,5 @@
 -- The steps of a line that is under way: its names are locked, its statement takes effect.
-use Rattle.std.proofs.Common.{◌≡◌, ◌≢◌, ℕ, zero, suc, ◌+◌, ◌*◌, Bool, true, false, List, [], ◌∷◌, ◌++◌, length, refl, sym, ◌∙◌, ap, subst, arith, Option, Some, None, ◌≤◌, ◌<◌, ◌⊎◌, inl, inr}
+use Rattle.std.proofs.Common.{◌≡◌, ℕ, ◌+◌, List, [], ◌∷◌, ◌++◌, refl, sym, ◌∙◌, ap, subst, arith, Option, Some, None, ◌≤◌}
 use Rattle.std.specs.Prelude.{IsSomeAnd}
 use Rattle.std.specs.List.{AllByRecursion, slice_get}
 use Rattle.std.specs.Option.{option_or}
@@ -13,10 +13,10 @@ use Rattle.iq_model.specs.declared.scripts.Deed.TheVariants as deeds
 use Rattle.iq_model.specs.Scripts.{IsRunnableLine, IsBuiltDeed}
 use Rattle.iq_model.specs.Tables.{Database}
 use Rattle.iq_model.specs.Statements.{first_refusal, statement_checks, room_checks, tables_after}
-use Rattle.iq_model.specs.State.{Stage, fresh, begun, locked, done, Work, Run, Standing, idle, lost, running, NodeState, Written, State, Desk, not_held, locks, committed, lock_checks}
-use Rattle.iq_model.specs.History.{IsOpen, IsRunning, CanLock, CanTake, DeedIs, LineIs, DeskIs, IsPossible, change, checks_to_lock, holds_more, takes_effect, line_takes, worked}
+use Rattle.iq_model.specs.State.{Stage, fresh, begun, locked, done, Work, Run, Standing, idle, lost, running, NodeState, Written, State, Desk, not_held, locks, lock_checks}
+use Rattle.iq_model.specs.History.{IsOpen, IsRunning, CanLock, CanTake, DeedIs, LineIs, DeskIs, IsPossible, change, checks_to_lock, holds_more, takes_effect, line_takes}
 use Rattle.iq_plex.specs.Plex.{desk_of, MayLock, CanLockLine, AsksTake, CanTakeLine}
-use Rattle.iq_plex.specs.Sound.{only_state, seen_by, used, line_locks, Sees, IsStanding, IsWrittenBy, IsSound, started}
+use Rattle.iq_plex.specs.Sound.{only_state, seen_by, used, line_locks, Sees, IsWrittenBy, IsSound, started}
 use Rattle.iq_plex.proofs.Names.{not_held-none}
 use Rattle.iq_plex.proofs.Checks.{first_refusal-append, lock_checks-one}
 use Rattle.iq_plex.proofs.Commits.{work_before, commits_effect, keeps_tables}

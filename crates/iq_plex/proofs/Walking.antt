@@ -1,5 +1,5 @@
 -- Where the one session stands after each entry, for callers.
-use Rattle.std.proofs.Common.{◌≡◌, ◌≢◌, ℕ, zero, ◌+◌, List, [], ◌∷◌, ◌++◌, refl, sym, ◌∙◌, ap, subst, Option, Some, None, drop}
+use Rattle.std.proofs.Common.{◌≡◌, ℕ, List, [], ◌∷◌, ◌++◌, refl, sym, ◌∙◌, ap, subst, Option, Some, None, drop}
 use Rattle.std.specs.Prelude.{IsSomeAnd}
 use Rattle.std.specs.List.{slice_get}
 use Rattle.iq_base.specs.declared.names.Name.{Name}
@@ -10,10 +10,8 @@ use Rattle.iq_history.specs.declared.entries.Entry.TheVariants as entries
 use Rattle.iq_model.specs.declared.scripts.Line.{Line}
 use Rattle.iq_model.specs.declared.scripts.Deed.{Deed}
 use Rattle.iq_model.specs.declared.scripts.Deed.TheVariants as deeds
-use Rattle.iq_model.specs.declared.replies.Reply.{Reply}
-use Rattle.iq_model.specs.Tables.{Database}
-use Rattle.iq_model.specs.State.{Stage, fresh, begun, locked, done, Work, Run, Standing, idle, lost, running, Desk, State, changed_at, database_of}
-use Rattle.iq_model.specs.History.{DeskIs, DeedIs, LineIs, change, begin_run, begins, ended, holds_more, locks_more, line_takes, takes, commit_run, desk_commits, statement_said, deed_said, entry_replies, desk_reply}
+use Rattle.iq_model.specs.State.{Stage, fresh, begun, locked, done, Run, Standing, idle, lost, running, Desk, State, changed_at, database_of}
+use Rattle.iq_model.specs.History.{DeskIs, DeedIs, LineIs, change, begin_run, begins, ended, holds_more, locks_more, line_takes, takes, commit_run, desk_commits, statement_said, deed_said, desk_reply}
 use Rattle.iq_plex.specs.Plex.{PlexState, state_of, replies_of, desk_of, IsAt, IsNext}
 
 -- what holds of the line under way holds of the session's desk

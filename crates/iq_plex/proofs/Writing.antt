@@ -1,14 +1,13 @@
 -- What a write and a query of one stored table do to all of them.
 use Rattle.std.proofs.Common.{◌≡◌, ℕ, zero, suc, ◌+◌, ◌≤◌, ◌<◌, Bool, true, false, List, [], ◌∷◌, ◌++◌, length, refl, sym, ◌∙◌, ap, subst, arith, Option, Some, None, cond, map, get_or, filter, Result, Ok, Err, ◌⊎◌, inl, inr}
-use Rattle.std.specs.Prelude.{IfOk, IfErr, OnOk, nat_lt, slice_index, unwrap_or, is_none, pos}
-use Rattle.std.specs.List.{slice_get, position, position_or_len, AllByRecursion}
+use Rattle.std.specs.Prelude.{IfOk, IfErr, OnOk, nat_lt, slice_index, unwrap_or, is_none}
+use Rattle.std.specs.List.{slice_get, position, position_or_len}
 use Rattle.std.specs.Option.{option_or}
 use Rattle.std.proofs.Math.ListN.{set}
 use Rattle.std.proofs.lemmas.Option.{get_or_from_slice_get}
 use Rattle.std.proofs.lemmas.Bool.Decides.{nat_tests}
 use Rattle.iq_base.specs.declared.names.Name.{Name}
 use Rattle.iq_base.specs.declared.values.Value.{Value}
-use Rattle.iq_base.specs.declared.values.Value.TheVariants.{Null}
 use Rattle.iq_base.specs.declared.schemas.Column.{Column}
 use Rattle.iq_base.specs.declared.answers.Out.{Out}
 use Rattle.iq_base.specs.declared.refusals.Refusal.{Refusal}
@@ -22,12 +21,12 @@ use Rattle.iq_table.specs.declared.table.Table.{Table as PagedTable}
 use Rattle.iq_table.specs.Table.{TableStands, Gains, GivesRows, projected as chosen}
 use Rattle.iq_table.specs.Layout.{value_at as value_in}
 use Rattle.iq_model.specs.Tables.{Slot, Table, Database, content, live_slot, with_rows, same_name, table_of, replaced}
-use Rattle.iq_model.specs.Statements.{Check, first_refusal, found_if, insert_checks, room_check, select_checks, inserted, first_bad_row, first_no_column, no_column, item_column, column_place, out_of, value_or_null, value_at, item_value, projected, rows_of, rows_at, answer}
+use Rattle.iq_model.specs.Statements.{first_refusal, found_if, insert_checks, room_check, inserted, first_bad_row, first_no_column, column_place, out_of, value_or_null, value_at, projected, rows_of, rows_at, answer}
 use Rattle.iq_plex.specs.declared.stored.Stored.{Stored}
 use Rattle.iq_plex.specs.Plex.{IsTableCause, IsGranted}
-use Rattle.iq_plex.specs.Stored.{told_by, StandsFor, StandFor, place_from, AreGranted, IsRowsCause, place_in, IsPlainItem, AllPlain}
+use Rattle.iq_plex.specs.Stored.{told_by, StandsFor, StandFor, place_from, AreGranted, IsRowsCause, place_in, AllPlain}
 use Rattle.iq_plex.proofs.Commits.{table_of-named}
-use Rattle.iq_plex.proofs.LookUps.{Found, found, none_found, replaced-stand}
+use Rattle.iq_plex.proofs.LookUps.{found, none_found, replaced-stand}
 
 pub if_ok : {A E : Type 0} (P Q : A → Type 0) (r : Result A E) → ((x : A) → P x → Q x) → IfOk r P → IfOk r Q
 if_ok P Q (Ok x) f p = f x p

@@ -1,5 +1,5 @@
 -- The shared state as contracts see it: its script, the tables that it was opened with, and its history.
-use Rattle.std.specs.Prelude.{◌≡◌, ℕ, ◌+◌, List, [], ◌∷◌, ◌++◌, ◌⊎◌, ◌≢◌, None, Some, map}
+use Rattle.std.specs.Prelude.{◌≡◌, ℕ, List, [], ◌∷◌, ◌++◌, ◌⊎◌, ◌≢◌, None, Some, map}
 use Rattle.iq_base.specs.declared.names.Name.{Name}
 use Rattle.iq_base.specs.declared.nodes.NodeSpec.{NodeSpec}
 use Rattle.iq_base.specs.declared.nodes.SessionSpec.{SessionSpec}
@@ -13,7 +13,7 @@ use Rattle.iq_model.specs.declared.scripts.Script.{Script}
 use Rattle.iq_model.specs.declared.replies.Reply.{Reply}
 use Rattle.iq_model.specs.Tables.{Database}
 use Rattle.iq_model.specs.Statements.{first_refusal, statement_checks, room_checks}
-use Rattle.iq_model.specs.State.{Stage, fresh, begun, locked, done, Work, Run, Standing, idle, running, Desk, State, start, not_held, locks}
+use Rattle.iq_model.specs.State.{Stage, fresh, begun, locked, Run, Standing, idle, running, Desk, State, start, not_held, locks}
 use Rattle.iq_model.specs.History.{IsLegal, change, replay, entry_replies, replies, DeskIs, IsOnTables, IsRunning, IsOpen, CanTake}
 
 -- the script, the tables at the opening, and the entries so far

@@ -1,5 +1,5 @@
 -- What the shared state keeps of one session on the coordinator.
-use Rattle.std.specs.Prelude.{◌≡◌, ℕ, ◌+◌, ◌*◌, ◌≤◌, List, [], ◌∷◌, ◌++◌, length}
+use Rattle.std.specs.Prelude.{◌≡◌, ℕ, ◌+◌, ◌*◌, ◌≤◌, List, [], ◌∷◌, length}
 use Rattle.std.specs.List.{AllByRecursion}
 use Rattle.iq_base.specs.declared.nodes.NodeKind.TheVariants.{Coordinator}
 use Rattle.iq_base.specs.declared.names.Name.{Name}
@@ -8,7 +8,7 @@ use Rattle.iq_model.specs.declared.scripts.Deed.{Deed}
 use Rattle.iq_model.specs.declared.scripts.Deed.TheVariants as deeds
 use Rattle.iq_model.specs.Scripts.{IsRunnableLine}
 use Rattle.iq_model.specs.Tables.{Database}
-use Rattle.iq_model.specs.State.{Stage, fresh, begun, locked, done, Work, Run, Standing, idle, lost, running, Desk, NodeState, Written, State, committed, locks}
+use Rattle.iq_model.specs.State.{Stage, fresh, begun, locked, done, Work, Standing, idle, lost, running, Desk, NodeState, Written, State, committed, locks}
 use Rattle.iq_plex.specs.Plex.{desk_of}
 
 -- a state of one node and one session

@@ -1,5 +1,5 @@
 -- Stored tables, and the plain tables for which they stand.
-use Rattle.std.specs.Prelude.{◌≡◌, ◌≤◌, ◌⊎◌, ◌++◌, ℕ, ◌+◌, unwrap_or, List, [], ◌∷◌, length, map, Option, Some, None, find, if◌then◌else◌}
+use Rattle.std.specs.Prelude.{◌≡◌, ◌⊎◌, ◌++◌, ℕ, ◌+◌, unwrap_or, List, [], ◌∷◌, length, map, Option, Some, None, find, if◌then◌else◌}
 use Rattle.std.specs.Ordering.{nat_cmp, is_gt}
 use Rattle.std.specs.Cmp.Lexicographic.{slice_cmp}
 use Rattle.std.specs.List.{AllByRecursion}
@@ -16,7 +16,7 @@ use Rattle.iq_base.specs.MemoryView.{memory_pages}
 use Rattle.iq_base.specs.Pages.{Pages}
 use Rattle.iq_table.specs.Table.{TableStands}
 use Rattle.iq_plex.specs.declared.stored.Stored.{Stored}
-use Rattle.iq_model.specs.Tables.{Table, Database, Slot, content, live_slot, same_name}
+use Rattle.iq_model.specs.Tables.{Table, Database, content, live_slot, same_name}
 
 -- the pages of each object, all of which are told
 abbrev pub told_by : MemoryPages → ℕ → Option Pages

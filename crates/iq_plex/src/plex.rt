@@ -1,5 +1,5 @@
 //! The shared state of one coordinator and its session.
-ghost use Rattle.std.specs.Prelude.{◌≡◌, ◌⊎◌, ◌+◌, Option, Some, None, [], map, OnOk, OnErr, IfOk, IfErr};
+ghost use Rattle.std.specs.Prelude.{◌≡◌, ◌+◌, Option, Some, [], map, OnOk, OnErr, IfOk, IfErr};
 ghost use Rattle.iq_base.specs.declared.nodes.NodeSpec.{NodeSpec};
 ghost use Rattle.iq_base.specs.declared.nodes.SessionSpec.{SessionSpec};
 ghost use Rattle.iq_ast.specs.declared.statements.Statement.TheVariants as statements;
@@ -47,7 +47,7 @@ impl Model for Plex {
 }
 
 impl Plex {
-    ghost use Rattle.iq_plex.specs.Plex.{PlexState, state_of, IsHistoryOf, IsOpened, IsNext, CanBeginLine, CanLockLine, CanRefuseLine, HoldsLine, IsTableCause, IsGranted, OfSeen};
+    ghost use Rattle.iq_plex.specs.Plex.{PlexState, state_of, IsHistoryOf, IsOpened, IsNext, CanBeginLine, CanLockLine, CanRefuseLine, HoldsLine, IsTableCause, OfSeen};
 
     /// Opens the state for a script, without tables. It takes the room for the entries of all lines, so that no later call
     /// takes memory for an entry.

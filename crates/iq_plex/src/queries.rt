@@ -1,5 +1,5 @@
 //! The rows of a query over stored tables.
-ghost use Rattle.std.specs.Prelude.{◌≡◌, ◌≤◌, ◌<◌, ◌⊎◌, ℕ, length, map, slice_index, Option, Some, None, pos, [], ◌∷◌, OnOk, OnErr, IfErr, IfOk};
+ghost use Rattle.std.specs.Prelude.{◌≡◌, ◌<◌, ◌⊎◌, map, Some, None, pos, [], ◌∷◌, IfErr, IfOk};
 ghost use Rattle.iq_ast.specs.declared.statements.Statement.TheVariants as statements;
 ghost use Rattle.iq_ast.specs.Built.{IsPlainSelect, AreItems};
 ghost use Rattle.iq_model.specs.Tables.{Database, Table, content};

@@ -1,9 +1,9 @@
 //! The effect of a write on stored tables.
-ghost use Rattle.std.specs.Prelude.{◌≡◌, ◌≤◌, ◌⊎◌, length, ◌++◌, Option, Some, None, [], OnOk, OnErr, IfErr, IfOk};
+ghost use Rattle.std.specs.Prelude.{◌≡◌, ◌≤◌, ◌⊎◌, length, ◌++◌, Some, None, OnOk, IfErr, IfOk};
 ghost use Rattle.iq_ast.specs.declared.statements.Statement.TheVariants as statements;
-ghost use Rattle.iq_ast.specs.Built.{IsBuiltWrite, AreColumns};
+ghost use Rattle.iq_ast.specs.Built.{IsBuiltWrite};
 ghost use Rattle.iq_model.specs.Scripts.{HasFewTuples};
-ghost use Rattle.iq_model.specs.Tables.{Database, Table, table_of, placed, replaced, with_rows, empty_table};
+ghost use Rattle.iq_model.specs.Tables.{Database, Table, table_of, placed, with_rows, empty_table};
 ghost use Rattle.iq_model.specs.Statements.{first_refusal, create_checks, insert_checks, room_check, inserted, effect};
 ghost use Rattle.iq_plex.specs.Plex.{IsTableCause, IsGranted};
 ghost use Rattle.iq_plex.specs.Stored.{StandsFor, StandFor, IsRowsCause, AreGranted};

@@ -1,2 +1,9 @@
 pub mod BodyLemmas
+pub mod FormatLemmas
+pub mod MomentLemmas
 pub mod NewestLemmas
+pub mod PageLemmas
+pub mod PublishLemmas
+pub mod PublishSteps
+pub mod SlotLemmas
+pub mod StepLemmas

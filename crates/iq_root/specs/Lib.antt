@@ -1,3 +1,6 @@
-pub mod Causes
 pub mod Roots
+pub mod Pages
+pub mod Causes
+pub mod Stops
 pub mod Publishing
+pub mod Formatting

@@ -1,11 +1,13 @@
 //! The newest root of a store.
 ghost use Rattle.std.specs.Prelude.{◌≡◌, ◌+◌, ◌*◌, ◌<◌, ◌≤◌, ℕ, List, Some, length, take, IfOk, IfErr, IsTrue, true, nat_lt};
-ghost use Rattle.iq_outside.specs.Devices.{HasLooked, block_of};
+ghost use Rattle.iq_outside.specs.Devices.{block_of};
 ghost use Rattle.iq_block_store.specs.Frames.{has_header, number_at};
-ghost use Rattle.iq_root.specs.Roots.{Formats, store_formats, long_at, numbers_at, root_of, may_say, is_valid, slot_root, newer, newest};
+ghost use Rattle.iq_block_store.specs.Looks.{HasLooked};
+ghost use Rattle.iq_root.specs.Roots.{long_at, numbers_at, root_of, may_say, slot_root, newer, newest};
 ghost use Rattle.iq_root.specs.Causes.{HasNoRoot, HasFault};
 
 use crate::pages::{BODY, GATE, long_at};
+use crate::steps::count_of;
 use crate::{Addresses, Root, RootFault};
 use iq_block_store::{BlockFault, number_at, read};
 use iq_outside::{Block, Device};
@@ -13,36 +15,20 @@ use iq_outside::{Block, Device};
 /// The formats that count, from the least to the most.
 const LEAST_FORMAT: u32 = 1;
 
-const MOST_FORMAT: u32 = 1;
+const MOST_FORMAT: u32 = 2;
 
 /// The newest root: of the valid slots the one of greater generation. It takes no memory.
 pub fn newest_root<D: Device>(disk: &mut D) -> Result<Root, RootFault>
     ensures looked { HasLooked D.blocks D.faults D.tells D.clock D.image disk.old disk.new }
     ensures newest { IfOk result (λ root. (all : List (List ℕ)) → D.blocks disk.old ≡ Some all
-        → newest store_formats all ≡ Some root) }
+        → newest all ≡ Some root) }
     ensures cause { IfErr result (λ e.
-        HasNoRoot store_formats e (D.blocks disk.old) (D.faults disk.old) (D.faults disk.new)) }
+        HasNoRoot e (D.blocks disk.old) (D.faults disk.old) (D.faults disk.new)) }
 {
     let count = count_of(disk)?;
     let first = slot_root(disk, count, 0)?;
     let second = slot_root(disk, count, 1)?;
     newer(first, second).ok_or(RootFault::NoRoot)
-}
-
-/// How many blocks there are.
-fn count_of<D: Device>(disk: &mut D) -> Result<u32, RootFault>
-    ensures looked { HasLooked D.blocks D.faults D.tells D.clock D.image disk.old disk.new }
-    ensures count { IfOk result (λ n. (all : List (List ℕ)) → D.blocks disk.old ≡ Some all → n ≡ length all) }
-    ensures cause { IfErr result (λ e. HasFault e (D.faults disk.old) (D.faults disk.new)) }
-{
-    let before = disk.faults();
-    match disk.count() {
-        Ok(count) => Ok(count),
-        Err(_) => {
-            let after = disk.faults();
-            Err(RootFault::StoreFault { before, after })
-        }
-    }
 }
 
 /// The root of a slot, if it is valid.
@@ -51,7 +37,7 @@ fn slot_root<D: Device>(disk: &mut D, count: u32, slot: u32) -> Result<Option<Ro
     requires slot { slot < 2 }
     ensures looked { HasLooked D.blocks D.faults D.tells D.clock D.image disk.old disk.new }
     ensures root { IfOk result (λ root. (all : List (List ℕ)) → D.blocks disk.old ≡ Some all
-        → root ≡ slot_root store_formats slot all) }
+        → root ≡ slot_root slot all) }
     ensures cause { IfErr result (λ e. HasFault e (D.faults disk.old) (D.faults disk.new)) }
 {
     let mut body = [0; 1024];
@@ -98,7 +84,7 @@ fn fetched<D: Device>(
 
 /// Whether a body may say what it says in this slot.
 fn may_say(slot: u32, body: &Block) -> bool
-    ensures { result ≡ may_say store_formats slot body.now }
+    ensures { result ≡ may_say slot body.now }
 {
     let generation = long_at(body);
     1 <= generation

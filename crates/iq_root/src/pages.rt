@@ -1,7 +1,8 @@
 //! The bytes of bodies and gates.
-ghost use Rattle.std.specs.Prelude.{◌≡◌, ◌+◌, ◌-◌, ◌*◌, ◌≤◌, ◌++◌, ℕ, List, length, take, drop};
+ghost use Rattle.std.specs.Prelude.{◌≡◌, ◌+◌, ◌*◌, ◌^◌, ◌<◌, ◌≤◌, ◌++◌, ℕ, List, [], length, flat_map, All};
 ghost use Rattle.iq_block_store.specs.Frames.{bytes_of};
-ghost use Rattle.iq_root.specs.Roots.{long_at, long_bytes, zeros, body_page, gate_page};
+ghost use Rattle.iq_root.specs.Roots.{long_at, long_bytes, body_page, gate_page};
+ghost use Rattle.iq_root.specs.Pages.{IsDone, RootFits};
 
 use crate::Root;
 use byteorder::{ByteOrder, LittleEndian};
@@ -27,40 +28,72 @@ pub fn gate_page(generation: u64) -> Page
     ensures { result ≡ gate_page generation }
 {
     let mut page = blank();
-    put(&mut page, 0, &generation.to_le_bytes());
+    put(&mut page, 0, &long_bytes(generation));
     page
 }
 
 /// The payload of a body.
 pub fn body_page(root: &Root) -> Page
-    ensures { result ≡ body_page root.now }
+    ensures page { result ≡ body_page root.now }
+    ensures fits { RootFits root.now }
 {
     let tables = root.tables.as_slice();
     let mut page = blank();
-    put(&mut page, 0, &root.generation.to_le_bytes());
-    put(&mut page, 8, &root.format.to_le_bytes());
-    put(&mut page, 12, &root.count.to_le_bytes());
-    put(&mut page, 16, &(tables.len() as u32).to_le_bytes());
-    for (k, address) in tables.iter().enumerate() {
-        put(&mut page, 20 + 4 * k, &address.to_le_bytes());
-    }
+    put(&mut page, 0, &long_bytes(root.generation));
+    put(&mut page, 8, &bytes_of(root.format));
+    put(&mut page, 12, &bytes_of(root.count));
+    put(&mut page, 16, &bytes_of(tables.len() as u32));
+    put_all(&mut page, tables);
     page
+}
+
+/// Writes addresses behind the first 20 bytes of a page that is written up to there.
+fn put_all(page: &mut Page, tables: &[u32])
+    requires { length tables.now ≤ 64 }
+    ensures done { (done : List ℕ) → IsDone 20 done page.old
+        → IsDone (20 + 4 * length tables.now) (done ++ flat_map bytes_of tables.now) page.new }
+    ensures fits { All (λ address. address < 2 ^ 32) tables.now }
+{
+    for (k, address) in tables.iter().enumerate() {
+        put(page, 20 + 4 * k, &bytes_of(*address));
+    }
 }
 
 /// A page of zeros.
 #[tactic(auto, unfolding(crate::specs::Roots::zeros))]
 fn blank() -> Page
-    ensures { result ≡ zeros 1008 }
+    ensures { IsDone 0 [] result }
 {
     [0; 1008]
 }
 
-/// Writes bytes behind what is done of a page, which is zeros from there on.
-#[tactic(auto, unfolding(crate::specs::Roots::zeros))]
+/// The 4 bytes of a number.
+#[tactic(auto, unfolding(iq_block_store::specs::Frames::bytes_of))]
+fn bytes_of(n: u32) -> [u8; 4]
+    ensures bytes { result ≡ bytes_of n }
+    ensures fits { n < 2 ^ 32 }
+{
+    let mut bytes = [0; 4];
+    LittleEndian::write_u32(&mut bytes, n);
+    bytes
+}
+
+/// The 8 bytes of a number.
+#[tactic(auto, unfolding(crate::specs::Roots::long_bytes))]
+fn long_bytes(n: u64) -> [u8; 8]
+    ensures bytes { result ≡ long_bytes n }
+    ensures fits { n < 2 ^ 64 }
+{
+    let mut bytes = [0; 8];
+    LittleEndian::write_u64(&mut bytes, n);
+    bytes
+}
+
+/// Writes bytes into a page that is written up to there.
 fn put(page: &mut Page, at: usize, bytes: &[u8])
     requires { at + length bytes.now ≤ 1008 }
-    ensures { (done : List ℕ) → length done ≡ at → page.old ≡ done ++ zeros (1008 - at)
-        → page.new ≡ (done ++ bytes.now) ++ zeros (1008 - (at + length bytes.now)) }
+    ensures { (done : List ℕ) → IsDone at done page.old
+        → IsDone (at + length bytes.now) (done ++ bytes.now) page.new }
 {
     page[at..at + bytes.len()].copy_from_slice(bytes);
 }

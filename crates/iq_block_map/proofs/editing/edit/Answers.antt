@@ -1,6 +1,7 @@
 use Rattle.std.proofs.Common.{rules, arith, ◌≡◌, ◌∙◌, ◌-◌, ◌+◌, ◌<◌, sym, ap, length, take, slice_index_or, slice_set, ℕ, List}
 use Rattle.std.proofs.lemmas.List.{take_all}
-use Rattle.iq_block_map.specs.Editing.{replaced_from, padded}
+use Rattle.iq_block_map.specs.Editing.{replaced_from}
+use Rattle.iq_block_map.specs.Leaves.{padded}
 use Rattle.iq_block_map.proofs.EditLemmas.{change_bounds, padded_set, padded_put, replaced_more, length-replaced}
 use Rattle.iq_block_map.proofs.editing.edit.Goals as goal
 

@@ -1,5 +1,6 @@
 use Rattle.std.proofs.Common.{◌≡◌, ℕ, List, length, take}
-use Rattle.iq_block_map.specs.Editing.{replaced_from, padded}
+use Rattle.iq_block_map.specs.Editing.{replaced_from}
+use Rattle.iq_block_map.specs.Leaves.{padded}
 use Rattle.iq_block_map.proofs.editing.edit.Given as goal
 
 abbrev pub invariant-loop-change : goal.invariant-loop-change

@@ -1,4 +1,4 @@
-use Rattle.std.proofs.Common.{rules, arith, ◌≡◌, false, nat_eq}
+use Rattle.std.proofs.Common.{arith, ◌≡◌, false, nat_eq}
 use Rattle.std.proofs.lemmas.Bool.{ne_eqb}
 use Rattle.iq_block_map.proofs.ReadLemmas.{read_cause}
 use Rattle.iq_block_map.proofs.editing.read_leaf.Goals as goal

@@ -1,4 +1,4 @@
-use Rattle.std.proofs.Common.{rules, arith, refl, sym, ap, subst, length-take, inl, inr, ◌≡◌, ◌∙◌, ◌<◌, ◌≤◌, ◌+◌, ℕ, List, Option, Some, length, take, true, slice_index}
+use Rattle.std.proofs.Common.{arith, sym, ap, subst, length-take, inl, inr, ◌≡◌, ◌∙◌, ◌≤◌, ◌+◌, ℕ, List, Option, length, take, true}
 use Rattle.std.specs.List.{All}
 use Rattle.std.proofs.lemmas.Bool.{cases_lt}
 use Rattle.std.proofs.lemmas.Result.{err_from_is_err_and}
@@ -6,7 +6,8 @@ use Rattle.std.proofs.lemmas.List.{get_or-take}
 use Rattle.iq_block_map.specs.Maps.{is_address}
 use Rattle.iq_block_map.specs.Objects.{leaf_count, used_in, map_at}
 use Rattle.iq_block_map.specs.Takers.{AreSpare}
-use Rattle.iq_block_map.specs.Editing.{edited, IsOpened, AreOpened, EndsTop}
+use Rattle.iq_block_map.specs.Editing.{edited}
+use Rattle.iq_block_map.specs.Leaves.{IsOpened}
 use Rattle.iq_block_map.proofs.EditLemmas.{length-edited, change_bounds}
 use Rattle.iq_block_map.proofs.PutLemmas.{put_none, put_then, looked_then}
 use Rattle.iq_block_map.proofs.ReadLemmas.{edit_fault_on}

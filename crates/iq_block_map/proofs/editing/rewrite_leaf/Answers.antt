@@ -1,5 +1,6 @@
-use Rattle.std.proofs.Common.{rules, arith, refl, sym, ◌∙◌, inl}
-use Rattle.iq_block_map.specs.Editing.{replaced_from, leaf_at}
+use Rattle.std.proofs.Common.{rules, refl, inl}
+use Rattle.iq_block_map.specs.Editing.{replaced_from}
+use Rattle.iq_block_map.specs.Leaves.{leaf_at}
 use Rattle.iq_block_map.proofs.EditLemmas.{length-replaced}
 use Rattle.iq_block_map.proofs.LeafLemmas.{stays_same}
 use Rattle.iq_block_map.proofs.PutLemmas.{put_none, looked_same, told_same}

@@ -1,15 +1,14 @@
-use Rattle.std.proofs.Common.{rules, arith, refl, sym, ap, subst, length-take, length-set, ◌≡◌, ◌∙◌, ◌<◌, ◌≤◌, ◌*◌, ◌+◌, ◌-◌, ◌++◌, ℕ, List, length, take, drop, min, slice_index, slice_set, true}
-use Rattle.std.specs.List.{prefix_len, All}
+use Rattle.std.proofs.Common.{rules, arith, refl, subst, length-take, length-set, ◌≡◌, ◌∙◌, ◌<◌, ◌≤◌, ◌*◌, ◌+◌, ◌++◌, ℕ, length, take, slice_index, true}
+use Rattle.std.specs.List.{All}
 use Rattle.std.proofs.lemmas.Result.{err_from_is_err_and}
 use Rattle.iq_block_map.specs.Maps.{is_address}
-use Rattle.iq_block_map.specs.Objects.{leaf_count, used_in}
-use Rattle.iq_block_map.specs.Takers.{taken_of}
-use Rattle.iq_block_map.specs.Editing.{below, edited, piece, replaced_from}
+use Rattle.iq_block_map.specs.Objects.{leaf_count}
+use Rattle.iq_block_map.specs.Editing.{edited, piece, replaced_from}
 use Rattle.iq_block_map.proofs.EditLemmas.{piece_at, edited_start, length-edited, prefix_few}
 use Rattle.iq_block_map.proofs.PutLemmas.{put_none, put_then, looked_same, told_same}
 use Rattle.iq_block_map.proofs.ReadLemmas.{below_count, edit_fault_on}
 use Rattle.iq_block_map.proofs.StepLemmas.{so_far_none}
-use Rattle.iq_block_map.proofs.NamedLemmas.{here_changes, all_drop, all_take, all_edited, listed_names, listed_count}
+use Rattle.iq_block_map.proofs.NamedLemmas.{here_changes, all_drop, all_edited, listed_names, listed_count}
 use Rattle.iq_block_map.proofs.RewriteLemmas.{put_told, spare_after, leaf_done, leaves_done, untouched_at, untouched_more, bad_leaf}
 use Rattle.iq_block_map.proofs.editing.rewrite_leaves.Goals as goal
 

@@ -1,6 +1,7 @@
 use Rattle.std.proofs.Common.{◌≡◌, ◌*◌, ◌++◌, ℕ, List, Some, length, drop}
 use Rattle.iq_block_map.specs.Writing.{HasPut}
-use Rattle.iq_block_map.specs.Editing.{AreChanges, AreBlocks, IsOpened, IsNowIn, edited, replaced_from}
+use Rattle.iq_block_map.specs.Editing.{AreChanges, AreBlocks, IsNowIn, edited, replaced_from}
+use Rattle.iq_block_map.specs.Leaves.{IsOpened}
 use Rattle.iq_block_map.proofs.StepLemmas.{IsSoFar}
 use Rattle.iq_block_map.proofs.editing.rewrite_leaves.Given as goal
 

@@ -1,4 +1,3 @@
-use Rattle.iq_block_map.proofs.TopLemmas.{fresh_same}
 use Rattle.iq_block_map.proofs.PutLemmas.{put_none, looked_same}
 use Rattle.iq_block_map.proofs.editing.top.Goals as goal
 

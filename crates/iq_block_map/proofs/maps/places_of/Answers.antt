@@ -1,4 +1,4 @@
-use Rattle.std.proofs.Common.{rules, arith}
+use Rattle.std.proofs.Common.{rules}
 use Rattle.iq_block_map.proofs.MapLemmas.{places_read}
 use Rattle.iq_block_map.proofs.maps.places_of.Goals as goal
 

@@ -1,6 +1,6 @@
-use Rattle.std.proofs.Common.{rules, arith, ◌≡◌, ◌∙◌, sym, ◌<◌, ◌/◌, ◌%◌}
+use Rattle.std.proofs.Common.{rules, arith, ◌∙◌, sym, ◌<◌, ◌/◌, ◌%◌}
 use Rattle.iq_block_map.specs.Objects.{leaf_count, used_in}
-use Rattle.iq_block_map.proofs.ReadLemmas.{below_count, read_fault_on}
+use Rattle.iq_block_map.proofs.ReadLemmas.{below_count}
 use Rattle.iq_block_map.proofs.reading.page.Goals as goal
 
 pub read_map-requires-clause-told : goal.read_map-requires-clause-told

@@ -1,4 +1,4 @@
-use Rattle.std.proofs.Common.{rules, arith}
+use Rattle.std.proofs.Common.{rules}
 use Rattle.iq_block_map.proofs.ReadLemmas.{holds_page}
 use Rattle.iq_block_map.proofs.reading.read_page.Goals as goal
 

@@ -1,7 +1,7 @@
-use Rattle.std.proofs.Common.{rules, arith, refl, ◌≡◌, ◌∙◌, sym, ap, ◌+◌, ◌<◌, ◌≤◌, ◌*◌, ◌-◌, ℕ, List, Some, Ok, Err, length, take, drop, slice_index, min}
+use Rattle.std.proofs.Common.{rules, arith, ◌≡◌, ◌∙◌, sym, ap, ◌+◌, ◌<◌, ◌≤◌, ◌*◌, ◌-◌, ℕ, List, Ok, Err, length, take, drop, slice_index}
 use Rattle.std.proofs.lemmas.Result.{err_from_is_err_and}
 use Rattle.std.proofs.lemmas.List.{length-take, get_or-take}
-use Rattle.iq_block_map.specs.Objects.{leaf_count, used_in, map_at, walked, joined, listed}
+use Rattle.iq_block_map.specs.Objects.{leaf_count, used_in, map_at, joined, listed}
 use Rattle.iq_block_map.proofs.ObjectLemmas.{listed_more, listed_stops}
 use Rattle.iq_block_map.proofs.ReadLemmas.{below_count, walk_fault_on}
 use Rattle.iq_block_map.proofs.reading.walk.Goals as goal

@@ -1,6 +1,3 @@
-use Rattle.std.proofs.Common.{rules, arith, ◌≡◌, ◌∙◌, ◌∷◌, true, sym}
-use Rattle.std.proofs.lemmas.Bool.{ltb-true, and_parts}
-use Rattle.iq_block_map.specs.Maps.{is_address}
 use Rattle.iq_block_map.proofs.PutLemmas.{put_one, put_none, looked_same, first_inside, written_ok}
 use Rattle.iq_block_map.proofs.writing.put.Goals as goal
 

@@ -1,4 +1,4 @@
-use Rattle.std.proofs.Common.{◌≡◌, ℕ, List, map, length, ◌<◌, refl, sym, ◌∙◌, subst, ap}
+use Rattle.std.proofs.Common.{ℕ, List, map, length, ◌<◌, sym, ◌∙◌, subst, ap}
 use Rattle.std.specs.Prelude.{slice_index}
 use Rattle.iq_base.specs.declared.schemas.Column.{Column}
 use Rattle.iq_plex.specs.Stored.{place_in}

@@ -1,6 +1,4 @@
-use Rattle.std.proofs.Common.{◌≡◌, List, Option, Some, None, refl, sym, ◌∙◌, subst, ap}
-use Rattle.iq_ast.specs.declared.statements.Item.{Item}
-use Rattle.iq_plex.specs.declared.stored.Stored.{Stored}
+use Rattle.std.proofs.Common.{sym, ◌∙◌, ap}
 use Rattle.iq_plex.specs.Stored.{place_from}
 use Rattle.iq_plex.proofs.Writing.{select_ok, select_err, select_missing, select_stands, if_ok, if_err}
 use Rattle.iq_plex.proofs.queries.select.Goals as goal

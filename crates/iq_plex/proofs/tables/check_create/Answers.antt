@@ -1,4 +1,4 @@
-use Rattle.std.proofs.Common.{◌≡◌, refl}
+use Rattle.std.proofs.Common.{refl}
 use Rattle.iq_model.specs.Tables.{table_of}
 use Rattle.iq_plex.proofs.LookUps.{create_full, create_free}
 use Rattle.iq_plex.proofs.tables.check_create.Goals as goal

@@ -1,6 +1,6 @@
-use Rattle.std.proofs.Common.{◌≡◌, sym, subst, Option}
+use Rattle.std.proofs.Common.{sym, subst, Option}
 use Rattle.iq_plex.specs.declared.stored.Stored.{Stored}
-use Rattle.iq_plex.specs.Stored.{Finds, named}
+use Rattle.iq_plex.specs.Stored.{Finds}
 use Rattle.iq_model.specs.Tables.{table_of}
 use Rattle.iq_plex.proofs.LookUps.{finds-named}
 use Rattle.iq_plex.proofs.tables.find.Goals as goal

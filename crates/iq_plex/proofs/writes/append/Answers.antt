@@ -1,7 +1,6 @@
-use Rattle.std.proofs.Common.{◌≡◌, ◌≤◌, ◌+◌, List, length, Option, None, arith, refl, sym, ap, ◌∙◌}
+use Rattle.std.proofs.Common.{◌≤◌, ◌+◌, List, length, arith, sym, ap, ◌∙◌}
 use Rattle.iq_base.specs.declared.schemas.Column.{Column}
 use Rattle.iq_base.specs.Limits.{row_limit}
-use Rattle.iq_model.specs.Tables.{Table}
 use Rattle.iq_model.specs.Statements.{first_bad_row}
 use Rattle.iq_plex.proofs.Fitting.{rows_fit}
 use Rattle.iq_plex.proofs.Writing.{rows_granted, append_stands}

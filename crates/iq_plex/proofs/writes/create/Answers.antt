@@ -1,5 +1,4 @@
-use Rattle.std.proofs.Common.{◌≡◌, List, Option, None, refl, sym, ◌∙◌, subst, ap}
-use Rattle.std.specs.Prelude.{insert}
+use Rattle.std.proofs.Common.{List, sym, ◌∙◌, subst, ap}
 use Rattle.iq_model.specs.Tables.{empty_table, placed}
 use Rattle.iq_plex.specs.declared.stored.Stored.{Stored}
 use Rattle.iq_plex.specs.Stored.{StandFor, before_from}

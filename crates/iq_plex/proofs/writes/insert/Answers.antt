@@ -1,6 +1,4 @@
-use Rattle.std.proofs.Common.{◌≡◌, List, Option, Some, None, refl, sym, ◌∙◌, subst, ap}
-use Rattle.iq_base.specs.declared.refusals.Refusal.{Refusal}
-use Rattle.iq_plex.specs.declared.stored.Stored.{Stored}
+use Rattle.std.proofs.Common.{sym, ◌∙◌, ap}
 use Rattle.iq_plex.specs.Stored.{place_from}
 use Rattle.iq_plex.proofs.Writing.{insert_ok, insert_err, insert_missing_err, if_err, on_ok}
 use Rattle.iq_plex.proofs.writes.insert.Goals as goal

@@ -1,4 +1,4 @@
-use Rattle.std.proofs.Common.{◌≡◌, List, [], ◌∷◌, refl, sym, ap, subst}
+use Rattle.std.proofs.Common.{List, [], sym, subst}
 use Rattle.iq_model.specs.declared.scripts.Script.{Script}
 use Rattle.iq_plex.specs.declared.stored.Stored.{Stored}
 use Rattle.iq_plex.specs.Kept.{IsKept, IsReadyFor}

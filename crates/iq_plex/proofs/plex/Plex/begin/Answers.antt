@@ -1,7 +1,7 @@
-use Rattle.std.proofs.Common.{◌≡◌, ◌+◌, List, [], ◌∷◌, Option, Some, None, refl, sym, subst}
+use Rattle.std.proofs.Common.{[], subst}
 use Rattle.iq_history.specs.declared.entries.Entry.{Entry}
 use Rattle.iq_history.specs.declared.entries.Entry.TheVariants as entries
-use Rattle.iq_plex.specs.Plex.{PlexState, IsNext, state_of}
+use Rattle.iq_plex.specs.Plex.{IsNext}
 use Rattle.iq_plex.proofs.Keeping.{kept_begin, begin_at, next_of}
 use Rattle.iq_plex.proofs.plex.Plex.begin.Goals as goal
 

@@ -1,7 +1,5 @@
-use Rattle.std.proofs.Common.{◌≡◌, ◌+◌, List, [], ◌∷◌, Option, Some, None, refl, sym, subst}
-use Rattle.iq_history.specs.declared.entries.Entry.{Entry}
+use Rattle.std.proofs.Common.{[]}
 use Rattle.iq_history.specs.declared.entries.Entry.TheVariants as entries
-use Rattle.iq_plex.specs.Plex.{PlexState, IsNext, state_of}
 use Rattle.iq_plex.proofs.Keeping.{kept_end, next_of}
 use Rattle.iq_plex.proofs.plex.Plex.end.Goals as goal
 

@@ -1,0 +1,12 @@
+pub mod Lanes
+pub mod LaneSums
+pub mod BitLists
+pub mod OneBit
+pub mod Combined
+pub mod Counted
+pub mod FirstBit
+pub mod NextSet
+pub mod PageBytes
+pub mod Trimmed
+pub mod Chunks
+pub mod Filled

@@ -1,0 +1,95 @@
+-- Leaves and topmost maps, one at a time: what the calls between a remap and its blocks say of each.
+use Rattle.std.specs.Prelude.{◌≡◌, ◌≢◌, ◌⊎◌, ℕ, ◌-◌, ◌<◌, ◌≤◌, false, List, [], ◌∷◌, ◌++◌, length, take, drop, replicate, nat_eq, nat_lt, Bool, if◌then◌else◌, slice_index, slice_set, Result, Ok, Err}
+use Rattle.std.specs.List.{All}
+use Rattle.iq_block_map.specs.declared.refs.Ref.{Ref}
+use Rattle.iq_block_map.specs.Maps.{map_block}
+use Rattle.iq_block_map.specs.Objects.{leaf_count, used_in, map_at, listed}
+use Rattle.iq_block_map.specs.Refs.{MayBe}
+use Rattle.iq_block_map.specs.Writing.{holds}
+use Rattle.iq_block_map.specs.Editing.{piece, fresh}
+
+-- whether a change is of a page before one
+abbrev pub below : ℕ → ℕ × ℕ → Bool
+below end c = nat_lt c.0 end
+
+-- a map's numbers are the leaves of an object with some pages, none of which may be taken
+pub record IsOpened (all : List (List ℕ)) (object : Ref) (ps xs left : List ℕ) : Type 0 where
+  pub may : MayBe (length all) (leaf_count object.pages) ps
+  pub listed : listed false all object.pages (take (leaf_count object.pages) ps) ≡ Ok xs
+  pub apart : All (λ b. holds left b ≡ false) (take (leaf_count object.pages) ps)
+
+-- the same where the leaves may be wrong
+pub record AreOpened (all : List (List ℕ)) (object : Ref) (ps left : List ℕ) : Type 0 where
+  pub may : MayBe (length all) (leaf_count object.pages) ps
+  pub apart : All (λ b. holds left b ≡ false) (take (leaf_count object.pages) ps)
+
+-- a block is a leaf of an object, and isn't right
+pub record IsBadLeaf (object : Ref) (ps : List ℕ) (block : ℕ) (all : List (List ℕ)) : Type 0 where
+  pub k : ℕ
+  pub within : k < leaf_count object.pages
+  pub bad : map_at all 1 (used_in object.pages k) (slice_index ps k) ≡ Err block
+
+-- so many numbers of a map are leaves of some pages, made of those of others
+pub record HasLeavesAt (all now : List (List ℕ)) (ls ms xs ys before after : List ℕ) (n : ℕ) : Type 0 where
+  pub may : MayBe (length all) n ms
+  pub listed : listed false now (length ys) (take n ms) ≡ Ok ys
+  pub taken : before ≡ fresh ls (take n ms) ++ after
+  pub shares : (k : ℕ) → k < n → piece k ys ≡ piece k xs → slice_index ms k ≡ slice_index ls k
+  pub differs : (k : ℕ) → k < n → slice_index ms k ≡ slice_index ls k → piece k ys ≡ piece k xs
+  pub apart : (k : ℕ) → k < n → holds after (slice_index ms k) ≡ false
+  pub rest : drop n ms ≡ drop n ls
+
+abbrev pub HasLeaves : List (List ℕ) → List (List ℕ) → List ℕ → List ℕ → List ℕ → List ℕ → List ℕ → List ℕ → Type 0
+HasLeaves all now ls ms xs ys before after = HasLeavesAt all now ls ms xs ys before after (leaf_count (length ys))
+
+-- a leaf: where it is, its first page, and how many it names
+abbrev pub leaf_at : List (List ℕ) → ℕ → ℕ → Result (List ℕ) ℕ
+leaf_at all used at = if nat_eq used 0 then Ok [] else map_at all 1 used at
+
+-- numbers behind which a map has zeros
+abbrev pub padded : List ℕ → List ℕ
+padded xs = xs ++ replicate (252 - length xs) 0
+
+-- a leaf stayed, as its pages do
+pub record StaysLeaf (all now : List (List ℕ)) (at made : ℕ) (xs ys before after : List ℕ) : Type 0 where
+  pub pages : ys ≡ xs
+  pub leaf : made ≡ at
+  pub left : after ≡ before
+  pub blocks : now ≡ all
+
+-- a leaf was written anew, as its pages changed
+pub record MakesLeaf (all now : List (List ℕ)) (made : ℕ) (xs ys before after : List ℕ) : Type 0 where
+  pub pages : ys ≢ xs
+  pub left : before ≡ made ∷ after
+  pub blocks : now ≡ slice_set all made (map_block 1 made (padded ys))
+
+abbrev pub EndsLeaf : List (List ℕ) → List (List ℕ) → ℕ → ℕ → List ℕ → List ℕ → List ℕ → List ℕ → Type 0
+EndsLeaf all now at made xs ys before after =
+    StaysLeaf all now at made xs ys before after ⊎ MakesLeaf all now made xs ys before after
+
+-- the only leaf is the topmost map
+pub record OnlyLeaf (all now : List (List ℕ)) (ms : List ℕ) (pages root : ℕ) (before after : List ℕ) : Type 0 where
+  pub few : pages ≤ 252
+  pub is : root ≡ slice_index ms 0
+  pub left : after ≡ before
+  pub blocks : now ≡ all
+
+-- the topmost map stays, as the leaves do
+pub record SameTop (all now : List (List ℕ)) (old : Ref) (ls ms : List ℕ) (pages root : ℕ) (before after : List ℕ) : Type 0 where
+  pub many : 252 < pages
+  pub had : 252 < old.pages
+  pub leaves : ms ≡ ls
+  pub is : root ≡ old.root
+  pub left : after ≡ before
+  pub blocks : now ≡ all
+
+-- the topmost map is written, as there was none or the leaves changed
+pub record NewTop (all now : List (List ℕ)) (old : Ref) (ls ms : List ℕ) (pages root : ℕ) (before after : List ℕ) : Type 0 where
+  pub many : 252 < pages
+  pub leaves : 252 < old.pages → ms ≢ ls
+  pub left : before ≡ root ∷ after
+  pub blocks : now ≡ slice_set all root (map_block 2 root ms)
+
+abbrev pub EndsTop : List (List ℕ) → List (List ℕ) → Ref → List ℕ → List ℕ → ℕ → ℕ → List ℕ → List ℕ → Type 0
+EndsTop all now old ls ms pages root before after =
+    OnlyLeaf all now ms pages root before after ⊎ (SameTop all now old ls ms pages root before after ⊎ NewTop all now old ls ms pages root before after)

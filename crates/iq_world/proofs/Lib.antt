@@ -1,0 +1,15 @@
+pub mod Drops
+pub mod Times
+pub mod Lows
+pub mod Kept
+pub mod Counts
+pub mod Possible
+pub mod Rising
+pub mod Runs
+pub mod Stepping
+pub mod Moving
+pub mod Reclaiming
+pub mod Committing
+pub mod Each
+pub mod Sizes
+pub mod Opened

@@ -1,0 +1,31 @@
+//! Versions, reports and space, as plain lists of block numbers over every list of steps.
+//!
+//! Contracts see a `World` as the record of its lists, and a step as the change that `after` of specs/Steps names. Below
+//! stands `iq_base`; above stand the layers that keep the same world in counted form and are compared with it. Its one law:
+//! from a sound world every list of steps leads to a sound world, and no block that a live snapshot reaches is free.
+#![tactic(auto)]
+
+mod floors;
+mod fold;
+mod laws;
+mod lists;
+mod openings;
+mod parts;
+mod reads;
+mod reclaim;
+mod space;
+mod steps;
+#[cfg(test)]
+mod tests;
+mod worlds;
+
+pub use fold::{after, world_law};
+pub use laws::{
+    a_step_keeps_a_world_sound, a_step_spares_what_is_live, all_steps_keep_a_world_sound,
+    an_opening_world_is_sound, the_places_fill_the_store,
+};
+pub use openings::opening;
+pub use worlds::{
+    Bag, Blocks, Reach, Reaches, Report, World, WorldNode, WorldNodes, WorldRun, WorldRuns,
+    WorldStep,
+};
