@@ -331,7 +331,6 @@ fn bad_bytes_are_told_by_their_block(rt: HostRuntime) -> Result<(), Fail> {
     ];
     for (row, (level, numbers, pages, map, first)) in rows.iter().enumerate() {
         let mut disk = zeros(alloc, 12)?;
-        let mut space = Spares::new(10, 12);
         let mut places = [0; 252];
         places[..2].copy_from_slice(numbers);
         frame(&mut disk, 8, MAP, *level, &payload_of(&places))?;
@@ -351,7 +350,12 @@ fn bad_bytes_are_told_by_their_block(rt: HostRuntime) -> Result<(), Fail> {
             "row {row}"
         );
         assert_eq!(rt;
-            change(&mut disk, &mut space, object, 0, 5).err(),
+            change(&mut disk, &mut Spares::new(10, 12), object, 0, 5).err(),
+            bad,
+            "row {row}"
+        );
+        assert_eq!(rt;
+            put(&mut disk, &mut Spares::new(10, 12), object, 0, 5).err(),
             bad,
             "row {row}"
         );
