@@ -12,6 +12,8 @@ mod pages;
 mod reading;
 mod refs;
 mod taker;
+#[cfg(test)]
+mod tests;
 mod writing;
 
 pub use editing::remap;
