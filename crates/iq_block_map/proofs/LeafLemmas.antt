@@ -5,13 +5,12 @@ use Rattle.std.proofs.Common.{refl, sym, ap, ◌∙◌, inl, inr, arith, append-
 use Rattle.std.proofs.lemmas.List.{take_at, drop_at, take-append-drop, length-take, length-drop, length-replicate, get_or_append_left, get_or-append_right, get_or-replicate, get_or_at}
 use Rattle.std.proofs.lemmas.Bool.{and_parts, eqb-true, eq-eqb, cases_lt, ltb-true, leb-true}
 use Rattle.iq_outside.specs.Devices.{block_of}
-use Rattle.iq_block_store.specs.Frames.{map_kind, bytes_of, header}
-use Rattle.iq_block_store.proofs.FrameLemmas.{has_header-framed, framed_level, length-header}
-use Rattle.iq_block_map.specs.Maps.{numbers_at, places, is_address, are_places, is_map, map_block}
+use Rattle.iq_block_store.specs.Frames.{map_kind, bytes_of, header, numbers_at}
+use Rattle.iq_block_store.proofs.FrameLemmas.{has_header-framed, framed_level, length-header, numbers_back}
+use Rattle.iq_block_map.specs.Maps.{places, is_address, are_places, is_map, map_block}
 use Rattle.iq_block_map.specs.Refs.{MayBe}
 use Rattle.iq_block_map.specs.Objects.{map_at}
 use Rattle.iq_block_map.specs.Leaves.{padded}
-use Rattle.iq_block_map.proofs.MapLemmas.{numbers_back}
 
 zeros_of : (zs : List ℕ) → list_all (nat_eq 0) zs ≡ true → zs ≡ replicate (length zs) 0
 zeros_of [] are = refl

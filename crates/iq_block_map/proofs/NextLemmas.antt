@@ -8,10 +8,10 @@ use Rattle.iq_outside.specs.Devices.{block_of}
 use Rattle.iq_block_map.specs.Maps.{is_address, map_block}
 use Rattle.iq_block_map.specs.Objects.{used_in, map_at}
 use Rattle.iq_block_map.specs.Writing.{holds}
-use Rattle.iq_block_map.specs.Editing.{piece}
+use Rattle.iq_block_map.specs.Editing.{piece, same_list, one_unless}
 use Rattle.iq_block_map.specs.Leaves.{padded, leaf_at, StaysLeaf, MakesLeaf}
 use Rattle.iq_block_map.proofs.LeafLemmas.{map_written}
-use Rattle.iq_block_map.proofs.StepLemmas.{NextLeaf, KeepsLeaves, piece_length}
+use Rattle.iq_block_map.proofs.StepLemmas.{NextLeaf, KeepsLeaves, piece_length, same_list-self, same_list-not}
 
 true_false : true ≡ false → ⊥
 true_false is = cc
@@ -74,6 +74,7 @@ stays_next all now now' xs ys ls ms after after' k at made here stays read some 
             ∙ ap (λ (n : ℕ). map_at now 1 n at) size
             ∙ map ∙ ap Ok (sym stays.pages);
         taken = rw equal (sym stays.left);
+        count = omega (arith, ap length stays.left, ap one_unless (ap (λ (t : List ℕ). same_list t (piece k xs)) stays.pages ∙ same_list-self (piece k xs)));
         named = ap (is_address (length all)) stays.leaf ∙ named old;
         apart = ap (holds after') stays.leaf ∙ ap (λ (t : List ℕ). holds t at) stays.left ∙ apart old;
         shares = λ is. same;
@@ -108,6 +109,7 @@ makes_next all now now' xs ys ls ms after after' k made size small makes named d
             ∙ ap (λ (n : ℕ). map_at (slice_set now made (map_block 1 made (padded (piece k ys)))) 1 n made) (sym (piece_length k ys))
             ∙ map_written now 1 made (piece k ys) (omega (arith, size, small)) (omega arith) below few each;
         taken = rw differ makes.left;
+        count = omega (arith, ap length makes.left, ap one_unless (same_list-not (piece k ys) (piece k xs) makes.pages));
         named = address;
         apart = parts.0;
         shares = λ is. absurd (makes.pages is);

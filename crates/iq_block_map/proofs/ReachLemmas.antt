@@ -256,5 +256,6 @@ remapped_before all mid now object new before taken left xs ys zs rest after fre
     subst (λ (t : List ℕ). HasRemapped all now object new xs t rest after) same record {
       size = remapped.size;
       addresses = remapped.addresses;
+      count = remapped.count;
       maps = λ ls ms is_old is_new. remapped.maps ls ms (leaves_same all mid object before taken left free ∙ is_old) is_new;
     }

@@ -9,7 +9,7 @@ use Rattle.iq_block_store.specs.Frames.{has_header, payload_of}
 use Rattle.iq_block_map.specs.Maps.{page_kind, is_address}
 use Rattle.iq_block_map.specs.Refs.{MayBe}
 use Rattle.iq_block_map.specs.Objects.{HoldsPage}
-use Rattle.iq_block_map.specs.Causes.{IsReadFault, IsWalkFault, IsEditFault}
+use Rattle.iq_block_map.specs.Causes.{IsReadFault, IsWalkFault, IsEditFault, IsPutFault}
 use Rattle.iq_block_map.specs.declared.refs.MapFault.{MapFault}
 use Rattle.iq_block_map.specs.declared.refs.MapFault.TheVariants.{StoreFault, BadMap, NoSpace, NoMemory}
 
@@ -59,26 +59,26 @@ walk_fault_on P Q NoSpace told told' first first' last last' same early late pas
 walk_fault_on P Q NoMemory told told' first first' last last' same early late pass bad = tt
 
 -- the same of what fails after something was written
-pub edit_fault_on : (P Q : ℕ → List (List ℕ) → Type 0) (e : MapFault) (told told' : Option (List (List ℕ))) (left : List ℕ) (first first' last last' : ℕ)
-    → first ≤ first' → last' ≤ last
-    → ((b : ℕ) (all : List (List ℕ)) → told ≡ Some all → (now : List (List ℕ)) × (told' ≡ Some now) × (P b now → Q b all))
-    → IsEditFault P e told' left first' last' → IsEditFault Q e told left first last
-edit_fault_on P Q (StoreFault before after) told told' left first first' last last' early late pass rose =
+pub edit_fault_on : (P Q : ℕ → List (List ℕ) → Type 0) (Lacks Needs : Type 0) (e : MapFault) (told told' : Option (List (List ℕ)))
+    (first first' last last' : ℕ) → first ≤ first' → last' ≤ last
+    → ((b : ℕ) (all : List (List ℕ)) → told ≡ Some all → (now : List (List ℕ)) × (told' ≡ Some now) × (P b now → Q b all)) → (Lacks → Needs)
+    → IsEditFault P Lacks e told' first' last' → IsEditFault Q Needs e told first last
+edit_fault_on P Q Lacks Needs (StoreFault before after) told told' first first' last last' early late pass lack rose =
     record { since = omega (arith, early, rose.since); risen = rose.risen; until = omega (arith, late, rose.until) }
-edit_fault_on P Q (BadMap block) told told' left first first' last last' early late pass bad =
+edit_fault_on P Q Lacks Needs (BadMap block) told told' first first' last last' early late pass lack bad =
     λ all is. let there = pass block all is in there.2 (bad there.0 there.1)
-edit_fault_on P Q NoSpace told told' left first first' last last' early late pass bad = bad
-edit_fault_on P Q NoMemory told told' left first first' last last' early late pass bad = bad
+edit_fault_on P Q Lacks Needs NoSpace told told' first first' last last' early late pass lack bad = lack bad
+edit_fault_on P Q Lacks Needs NoMemory told told' first first' last last' early late pass lack bad = bad
 
--- a fault of reading is one of editing
-pub read_fault_edits : (P Q : ℕ → List (List ℕ) → Type 0) (e : MapFault) (told told' : Option (List (List ℕ))) (left : List ℕ) (first first' last last' : ℕ)
-    → told' ≡ told → first ≤ first' → last' ≤ last → ((b : ℕ) (all : List (List ℕ)) → told ≡ Some all → P b all → Q b all)
-    → IsReadFault P e told' first' last' → IsEditFault Q e told left first last
-read_fault_edits P Q (StoreFault before after) told told' left first first' last last' same early late pass rose =
+-- a fault of writing a block is one of editing
+pub put_fault_edits : (Q : ℕ → List (List ℕ) → Type 0) (Lacks Needs : Type 0) (e : MapFault) (told : Option (List (List ℕ)))
+    (first first' last last' : ℕ) → first ≤ first' → last' ≤ last → (Lacks → Needs)
+    → IsPutFault Lacks e first' last' → IsEditFault Q Needs e told first last
+put_fault_edits Q Lacks Needs (StoreFault before after) told first first' last last' early late lack rose =
     record { since = omega (arith, early, rose.since); risen = rose.risen; until = omega (arith, late, rose.until) }
-read_fault_edits P Q (BadMap block) told told' left first first' last last' same early late pass bad = λ all is. pass block all is (bad all (same ∙ is))
-read_fault_edits P Q NoSpace told told' left first first' last last' same early late pass bad = absurd bad
-read_fault_edits P Q NoMemory told told' left first first' last last' same early late pass bad = bad
+put_fault_edits Q Lacks Needs (BadMap block) told first first' last last' early late lack bad = absurd bad
+put_fault_edits Q Lacks Needs NoSpace told first first' last last' early late lack bad = lack bad
+put_fault_edits Q Lacks Needs NoMemory told first first' last last' early late lack bad = bad
 
 -- a cause that says as much in other words
 pub read_cause : {T : Type 0} (P Q : ℕ → List (List ℕ) → Type 0) (r : Result T MapFault) (told : Option (List (List ℕ))) (first last : ℕ)

@@ -11,10 +11,10 @@ use Rattle.iq_block_map.specs.Refs.{MayBe}
 use Rattle.iq_block_map.specs.Objects.{leaf_count, used_in, map_at}
 use Rattle.iq_block_map.specs.Takers.{AreSpare, taken_of}
 use Rattle.iq_block_map.specs.Writing.{holds, SameBeside, HasPut}
-use Rattle.iq_block_map.specs.Editing.{piece}
-use Rattle.iq_block_map.specs.Leaves.{leaf_at, EndsLeaf, IsOpened, AreOpened, IsBadLeaf, HasLeaves, HasLeavesAt}
+use Rattle.iq_block_map.specs.Editing.{piece, differing, one_unless, same_list}
+use Rattle.iq_block_map.specs.Leaves.{leaf_at, EndsLeaf, IsOpened, AreOpened, IsBadLeaf, HasLeaves, HasLeavesAt, LacksLeaf}
 use Rattle.iq_block_map.proofs.PutLemmas.{holds-append}
-use Rattle.iq_block_map.proofs.StepLemmas.{IsSoFar, so_far_more, listed_at, map_same}
+use Rattle.iq_block_map.proofs.StepLemmas.{IsSoFar, so_far_more, listed_at, map_same, same_list-not, differing_more, differing_grows}
 use Rattle.iq_block_map.proofs.NextLemmas.{distinct_parts, head_apart, stays_next, makes_next, behind_of}
 use Rattle.iq_block_map.proofs.ReadLemmas.{address_at}
 
@@ -181,6 +181,7 @@ leaves_done all now old xs ys ls ms before after k so_far opened end grown few l
       may = record { size = long; places = rw (named, zeros) refl };
       listed = so_far.listed ∙ ap Ok whole;
       taken = so_far.taken;
+      count = so_far.count;
       shares = so_far.shares;
       differs = so_far.differs;
       apart = so_far.apart;
@@ -219,3 +220,13 @@ bad_leaf all now old ls before taken after k b at used opened same split few use
 
     read : nat_eq used 0 ≡ false → leaf_at now used at ≡ Err at → map_at now 1 used at ≡ Err at
     read some is = rw some at is
+
+-- no block is left for a leaf that must be written
+pub lacks_leaf : (all now : List (List ℕ)) (xs ys ls ms before after : List ℕ) (k : ℕ) → IsSoFar all now xs ys ls ms before after k → after ≡ []
+    → piece k ys ≢ piece k xs → k < leaf_count (length ys) → LacksLeaf before xs ys
+lacks_leaf all now xs ys ls ms before after k so_far none other within =
+    let n = leaf_count (length ys) in
+    let one : one_unless (same_list (piece k ys) (piece k xs)) ≡ 1 = ap one_unless (same_list-not (piece k ys) (piece k xs) other) in
+    let over : (k + 1) + (n - (k + 1)) ≡ n = omega (arith, within) in
+    let grows : differing (k + 1) xs ys ≤ differing ((k + 1) + (n - (k + 1))) xs ys = differing_grows (k + 1) (n - (k + 1)) xs ys in
+    omega (arith, one, so_far.count, ap length none, differing_more k xs ys, grows, ap (λ (m : ℕ). differing m xs ys) over)

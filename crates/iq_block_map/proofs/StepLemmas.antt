@@ -1,13 +1,13 @@
 -- Leaves written one after the other.
-use Rattle.std.specs.Prelude.{◌≡◌, ◌⊎◌, ℕ, zero, suc, ◌+◌, ◌-◌, ◌*◌, ◌<◌, ◌≤◌, min, Bool, true, false, List, [], ◌∷◌, ◌++◌, length, take, drop, nat_eq, slice_index, slice_set, if◌then◌else◌, Result, Ok, Err}
+use Rattle.std.specs.Prelude.{◌≡◌, ◌⊎◌, ℕ, zero, suc, ◌+◌, ◌-◌, ◌*◌, ◌<◌, ◌≤◌, min, Bool, true, false, List, [], ◌∷◌, ◌++◌, length, take, drop, nat_eq, slice_index, slice_set, if◌then◌else◌, Result, Ok, Err, ◌≢◌}
 use Rattle.std.proofs.Common.{refl, sym, ap, subst, ◌∙◌, inl, inr, arith, append_assoc, append-nil, get_or-set_other, get_or-set_same}
 use Rattle.std.proofs.lemmas.List.{take_at, drop_at, take_all, take_more_set, length-take, length-drop, drop-drop, drop-take, take-take, take-append-drop, get_or-take, get_or-drop}
-use Rattle.std.proofs.lemmas.Bool.{cases_lt}
+use Rattle.std.proofs.lemmas.Bool.{cases_lt, cases_Bool, eqb-true, and_parts, eq-eqb}
 use Rattle.iq_outside.specs.Devices.{block_of}
 use Rattle.iq_block_map.specs.Maps.{places, is_address, is_map}
 use Rattle.iq_block_map.specs.Objects.{leaf_count, used_in, map_at, joined, front, listed}
 use Rattle.iq_block_map.specs.Writing.{holds}
-use Rattle.iq_block_map.specs.Editing.{piece, fresh}
+use Rattle.iq_block_map.specs.Editing.{piece, fresh, differing, same_list, one_unless}
 use Rattle.iq_block_map.proofs.MapLemmas.{length-places}
 
 -- a map reads the same where its block is the same
@@ -126,6 +126,7 @@ pub record IsSoFar (all now : List (List ℕ)) (xs ys ls ms before after : List 
   pub size : length now ≡ length all
   pub listed : listed false now (length ys) (take k ms) ≡ Ok (take (252 * k) ys)
   pub taken : before ≡ fresh ls (take k ms) ++ after
+  pub count : length before ≡ differing k xs ys + length after
   pub named : (j : ℕ) → j < k → is_address (length all) (slice_index ms j) ≡ true
   pub apart : (j : ℕ) → j < k → holds after (slice_index ms j) ≡ false
   pub shares : (j : ℕ) → j < k → piece j ys ≡ piece j xs → slice_index ms j ≡ slice_index ls j
@@ -136,6 +137,7 @@ so_far_none all xs ys ls before = record {
   size = refl;
   listed = ap (λ (n : ℕ). Ok (take n ys)) none;
   taken = refl;
+  count = omega arith;
   named = λ j within. absurd (omega (arith, within));
   apart = λ j within. absurd (omega (arith, within));
   shares = λ j within. absurd (omega (arith, within));
@@ -157,6 +159,42 @@ take_piece k ys =
     ∙ take-append-drop (252 * k) whole
     ∙ ap (λ (n : ℕ). take n ys) (sym more)
 
+-- one more leaf
+pub differing_more : (k : ℕ) (xs ys : List ℕ) → differing (k + 1) xs ys ≡ differing k xs ys + one_unless (same_list (piece k ys) (piece k xs))
+differing_more k xs ys = ap (λ (n : ℕ). differing n xs ys) more
+  where
+    more : k + 1 ≡ suc k
+    more = omega arith
+
+-- lists are the same where they are told so
+pub same_list-self : (xs : List ℕ) → same_list xs xs ≡ true
+same_list-self [] = refl
+same_list-self (x ∷ xs) = rw (eq-eqb x x refl) (same_list-self xs)
+
+pub same_list-is : (xs ys : List ℕ) → same_list xs ys ≡ true → xs ≡ ys
+same_list-is [] [] same = refl
+same_list-is [] (y ∷ ys) same = cc
+same_list-is (x ∷ xs) [] same = cc
+same_list-is (x ∷ xs) (y ∷ ys) same =
+    let parts = and_parts (nat_eq x y) (same_list xs ys) same in
+    ap (λ (n : ℕ). n ∷ xs) (eqb-true x y parts.0) ∙ ap (λ (t : List ℕ). y ∷ t) (same_list-is xs ys parts.1)
+
+pub same_list-not : (xs ys : List ℕ) → xs ≢ ys → same_list xs ys ≡ false
+same_list-not xs ys other = elim (cases_Bool (same_list xs ys)) [
+  | inl same ↦ absurd (other (same_list-is xs ys same))
+  | inr not_same ↦ not_same
+]
+
+-- the first leaves have at most as many others as more of them
+pub differing_grows : (k n : ℕ) (xs ys : List ℕ) → differing k xs ys ≤ differing (k + n) xs ys
+differing_grows k zero xs ys =
+    let none : k + 0 ≡ k = omega arith in
+    omega (arith, ap (λ (m : ℕ). differing m xs ys) none)
+differing_grows k (suc n) xs ys =
+    let more : k + suc n ≡ suc (k + n) = omega arith in
+    let rest = differing_grows k n xs ys in
+    omega (arith, rest, ap (λ (m : ℕ). differing m xs ys) more)
+
 -- what holds of each leaf before one, and of that one, holds of each up to it
 each_more : (P : ℕ → Type 0) (k : ℕ) → ((j : ℕ) → j < k → P j) → P k → (j : ℕ) → j < k + 1 → P j
 each_more P k before here j within = elim (cases_lt j k) [
@@ -175,6 +213,7 @@ put_here ms k made within = get_or-set_same ms k made 0 within
 pub record NextLeaf (all now : List (List ℕ)) (xs ys ls after after' : List ℕ) (k made : ℕ) : Type 0 where
   pub reads : map_at now 1 (used_in (length ys) k) made ≡ Ok (piece k ys)
   pub taken : after ≡ (if nat_eq (slice_index ls k) made then [] else made ∷ []) ++ after'
+  pub count : length after ≡ one_unless (same_list (piece k ys) (piece k xs)) + length after'
   pub named : is_address (length all) made ≡ true
   pub apart : holds after' made ≡ false
   pub shares : piece k ys ≡ piece k xs → made ≡ slice_index ls k
@@ -213,6 +252,7 @@ so_far_more all now now' xs ys ls ms before after after' k made within few so_fa
           ∙ ap (λ (n : ℕ). (fresh ls (take k ms) ++ (if nat_eq (slice_index ls n) made then [] else made ∷ [])) ++ after') (sym size)
           ∙ ap (λ (t : List ℕ). t ++ after') (sym (fresh_push ls (take k ms) made))
           ∙ ap (λ (t : List ℕ). fresh ls t ++ after') (sym front);
+      count = omega (arith, so_far.count, next.count, differing_more k xs ys);
       named = each_more (λ j. is_address (length all) (slice_index (slice_set ms k made) j) ≡ true) k
           (λ j early. ap (is_address (length all)) (put_before ms k made j early) ∙ so_far.named j early)
           (ap (is_address (length all)) (put_here ms k made within) ∙ next.named);

@@ -1,5 +1,5 @@
 -- The topmost map over leaves that were written where they changed.
-use Rattle.std.specs.Prelude.{◌≡◌, ◌≢◌, ℕ, zero, suc, ◌+◌, ◌*◌, ◌^◌, ◌<◌, ◌≤◌, Bool, true, false, List, [], ◌∷◌, ◌++◌, length, take, drop, nat_eq, slice_index, slice_set, if◌then◌else◌, Result, Ok, Err}
+use Rattle.std.specs.Prelude.{◌≡◌, ◌≢◌, ℕ, zero, suc, ◌+◌, ◌*◌, ◌^◌, ◌<◌, ◌≤◌, Bool, true, false, List, [], ◌∷◌, ◌++◌, length, take, drop, nat_eq, slice_index, slice_set, if◌then◌else◌, Result, Ok, Err, nat_le, ◌||◌}
 use Rattle.std.specs.List.{All}
 use Rattle.std.proofs.Common.{refl, sym, ap, subst, ◌∙◌, inl, inr, arith, append_assoc, append-nil, length-set, get_or-set_other}
 use Rattle.std.proofs.lemmas.List.{ext_get_or, get_or-take, get_or-drop, get_or_past, length-take, take_all, take-append-drop}
@@ -10,12 +10,12 @@ use Rattle.iq_block_map.specs.Maps.{is_address, map_block}
 use Rattle.iq_block_map.specs.Refs.{MayBe}
 use Rattle.iq_block_map.specs.Objects.{leaf_count, map_at, leaves_of, listed, listed_in, joined, top_of, addresses_of}
 use Rattle.iq_block_map.specs.Writing.{holds, SameBeside}
-use Rattle.iq_block_map.specs.Editing.{piece, fresh, AreApart, HasRemapped, edited}
+use Rattle.iq_block_map.specs.Editing.{piece, fresh, AreApart, HasRemapped, edited, differing, same_list, one_unless, maps_needed}
 use Rattle.iq_block_map.specs.Leaves.{padded, HasLeaves, OnlyLeaf, SameTop, NewTop, EndsTop}
 use Rattle.iq_block_map.proofs.ObjectLemmas.{joined-nil}
 use Rattle.iq_block_map.proofs.PutLemmas.{holds-append}
 use Rattle.iq_block_map.proofs.LeafLemmas.{padded_of, map_written}
-use Rattle.iq_block_map.proofs.StepLemmas.{listed_same, map_same, take_piece, ok_is, length_map}
+use Rattle.iq_block_map.proofs.StepLemmas.{listed_same, map_same, take_piece, ok_is, length_map, same_list-self, same_list-not}
 use Rattle.iq_block_map.proofs.NextLemmas.{head_apart, below_of, behind_of}
 use Rattle.iq_block_map.proofs.RewriteLemmas.{spare_zero}
 use Rattle.iq_block_map.proofs.NamedLemmas.{each_of, listed_count}
@@ -119,18 +119,18 @@ pub record IsRebuilt (all mid : List (List ℕ)) (old : Ref) (ls ms xs ys before
   pub few : length ys ≤ 63504
 
 -- the same pages have the same leaves
-same_leaves : (all mid : List (List ℕ)) (old : Ref) (ls ms xs ys before left taken : List ℕ) → IsRebuilt all mid old ls ms xs ys before left taken
-    → ys ≡ xs → ms ≡ ls
-same_leaves all mid old ls ms xs ys before left taken rebuilt same =
+same_leaves : (all mid : List (List ℕ)) (old : Ref) (ls ms xs ys before left : List ℕ) → MayBe (length all) (leaf_count old.pages) ls
+    → HasLeaves all mid ls ms xs ys before left → length ys ≤ 63504 → ys ≡ xs → ms ≡ ls
+same_leaves all mid old ls ms xs ys before left may has few same =
     let n = leaf_count (length ys) in
-    let fits : n ≤ 252 = omega (arith, rebuilt.few) in
+    let fits : n ≤ 252 = omega (arith, few) in
     let size : length (take n ms) ≡ length (take n ls)
-    = length-take n ms ∙ omega (arith, rebuilt.has.may.size, rebuilt.may.size) ∙ sym (length-take n ls) in
+    = length-take n ms ∙ omega (arith, has.may.size, may.size) ∙ sym (length-take n ls) in
     let front : take n ms ≡ take n ls = ext_get_or 0 (take n ms) (take n ls) size
     (λ k within.
     let inside : k < n = omega (arith, within, length-take n ms) in
-    get_or-take n ms k 0 inside ∙ rebuilt.has.shares k inside (ap (piece k) same) ∙ sym (get_or-take n ls k 0 inside)) in
-    sym (take-append-drop n ms) ∙ ap (λ (t : List ℕ). t ++ drop n ms) front ∙ ap (λ (t : List ℕ). take n ls ++ t) rebuilt.has.rest ∙ take-append-drop n ls
+    get_or-take n ms k 0 inside ∙ has.shares k inside (ap (piece k) same) ∙ sym (get_or-take n ls k 0 inside)) in
+    sym (take-append-drop n ms) ∙ ap (λ (t : List ℕ). t ++ drop n ms) front ∙ ap (λ (t : List ℕ). take n ls ++ t) has.rest ∙ take-append-drop n ls
 
 -- the same leaves name the same pages
 same_pages : (all mid : List (List ℕ)) (old : Ref) (ls ms xs ys before left taken : List ℕ) → IsRebuilt all mid old ls ms xs ys before left taken
@@ -146,14 +146,16 @@ rebuilt_done : (all mid now : List (List ℕ)) (old new : Ref) (ls ms xs ys befo
     → IsRebuilt all mid old ls ms xs ys before left taken → new.pages ≡ length ys
     → leaves_of now new ≡ Ok (take (leaf_count (length ys)) ms)
     → listed false now (length ys) (take (leaf_count (length ys)) ms) ≡ Ok ys
-    → left ≡ fresh (top_of true old) (top_of true new) ++ after → (ys ≡ xs → new ≡ old)
+    → left ≡ fresh (top_of true old) (top_of true new) ++ after → length left ≡ one_unless (nat_le (length ys) 252 || same_list ys xs) + length after
+    → (ys ≡ xs → new ≡ old)
     → HasRemapped all now old new xs ys before after
-rebuilt_done all mid now old new ls ms xs ys before left after taken rebuilt size leaves pages top whole =
+rebuilt_done all mid now old new ls ms xs ys before left after taken rebuilt size leaves pages top top_count whole =
     let n = leaf_count (length ys) in
     let here : listed false now new.pages (take n ms) ≡ Ok ys = ap (λ (m : ℕ). listed false now m (take n ms)) size ∙ pages in
     record {
       size = size;
       addresses = addresses_from now new (take n ms) (Ok ys) leaves here;
+      count = omega (arith, rebuilt.has.count, top_count);
       maps = λ ls' ms' is_old is_new.
           let old_is : ls' ≡ take (leaf_count old.pages) ls = ok_is ls' (take (leaf_count old.pages) ls) (leaves_of all old) is_old rebuilt.leaves in
           let new_is : ms' ≡ take n ms = ok_is ms' (take n ms) (leaves_of now new) is_new leaves in
@@ -190,6 +192,7 @@ done_only all mid now old new ls ms xs ys before left after taken rebuilt size o
     = sym only.left ∙ ap (λ (t : List ℕ). fresh (top_of true old) t ++ after) (sym no_top) in
     rebuilt_done all mid now old new ls ms xs ys before left after taken rebuilt size leaves
     (ap (λ (b : List (List ℕ)). listed false b (length ys) (take (leaf_count (length ys)) ms)) only.blocks ∙ rebuilt.has.listed) top
+    (omega (arith, ap length only.left, ap (λ (b : Bool). one_unless (b || same_list ys xs)) (le-leb (length ys) 252 only.few)))
     (λ same.
     let old_pages : old.pages ≡ length ys = sym rebuilt.count ∙ ap length (sym same) in
     let old_one : leaves_of all old ≡ Ok (old.root ∷ []) = leaves_one all old (omega (arith, old_pages, rebuilt.some)) (omega (arith, old_pages, only.few)) in
@@ -197,7 +200,7 @@ done_only all mid now old new ls ms xs ys before left after taken rebuilt size o
     = ap (λ (n : ℕ). take (leaf_count n) ls) old_pages ∙ ap (λ (n : ℕ). take n ls) one ∙ take_one ls (omega (arith, rebuilt.may.size)) in
     let root_list : old.root ∷ [] ≡ slice_index ls 0 ∷ [] = ok_is (old.root ∷ []) (slice_index ls 0 ∷ []) (leaves_of all old) old_one (rebuilt.leaves ∙ ap Ok old_first) in
     let root : old.root ≡ slice_index ls 0 = ap (λ (t : List ℕ). slice_index t 0) root_list in
-    let leaf : slice_index ms 0 ≡ slice_index ls 0 = ap (λ (t : List ℕ). slice_index t 0) (same_leaves all mid old ls ms xs ys before left taken rebuilt same) in
+    let leaf : slice_index ms 0 ≡ slice_index ls 0 = ap (λ (t : List ℕ). slice_index t 0) (same_leaves all mid old ls ms xs ys before left rebuilt.may rebuilt.has rebuilt.few same) in
     ref_same new old (only.is ∙ leaf ∙ sym root) (size ∙ sym old_pages))
 
 -- the topmost map stays
@@ -227,7 +230,31 @@ done_same all mid now old new ls ms xs ys before left after taken rebuilt size s
     ∙ ap (λ (t : List ℕ). fresh t t ++ after) (sym (top_one old stays.had))
     ∙ ap (λ (r : Ref). fresh (top_of true old) (top_of true r) ++ after) (sym is) in
     rebuilt_done all mid now old new ls ms xs ys before left after taken rebuilt size leaves
-    (ap (λ (b : List (List ℕ)). listed false b (length ys) (take (leaf_count (length ys)) ms)) stays.blocks ∙ rebuilt.has.listed) top (λ again. is)
+    (ap (λ (b : List (List ℕ)). listed false b (length ys) (take (leaf_count (length ys)) ms)) stays.blocks ∙ rebuilt.has.listed) top
+    (omega (
+      arith,
+      ap length stays.left,
+      ap one_unless (ap (λ (b : Bool). b || same_list ys xs) (lt-leb (length ys) 252 stays.many)
+          ∙ ap (λ (t : List ℕ). same_list t xs) same ∙ same_list-self xs),
+    ))
+    (λ again. is)
+
+-- a topmost map that is written is over other pages
+new_pages : (all mid : List (List ℕ)) (old : Ref) (ls ms xs ys before left : List ℕ) → MayBe (length all) (leaf_count old.pages) ls
+    → HasLeaves all mid ls ms xs ys before left → length ys ≤ 63504 → length xs ≡ old.pages → 252 < length ys → (252 < old.pages → ms ≢ ls) → ys ≢ xs
+new_pages all mid old ls ms xs ys before left may has few count many other is =
+    let old_pages : old.pages ≡ length ys = sym count ∙ ap length (sym is) in
+    other (omega (arith, old_pages, many)) (same_leaves all mid old ls ms xs ys before left may has few is)
+
+-- no block is left for a topmost map that must be written
+pub lacks_top : (all mid : List (List ℕ)) (old : Ref) (ls ms xs ys before left : List ℕ) → MayBe (length all) (leaf_count old.pages) ls
+    → HasLeaves all mid ls ms xs ys before left → length ys ≤ 63504 → length xs ≡ old.pages → 252 < length ys → (252 < old.pages → ms ≢ ls) → left ≡ []
+    → length before < maps_needed xs ys
+lacks_top all mid old ls ms xs ys before left may has few count many other none =
+    let one : one_unless (nat_le (length ys) 252 || same_list ys xs) ≡ 1
+    = ap one_unless (ap (λ (b : Bool). b || same_list ys xs) (lt-leb (length ys) 252 many)
+    ∙ same_list-not ys xs (new_pages all mid old ls ms xs ys before left may has few count many other)) in
+    omega (arith, one, has.count, ap length none)
 
 -- the topmost map is written
 done_new : (all mid now : List (List ℕ)) (old new : Ref) (ls ms xs ys before left after taken : List ℕ)
@@ -279,9 +306,15 @@ done_new all mid now old new ls ms xs ys before left after taken rebuilt size ma
     = made.left ∙ ap (λ (t : List ℕ). t ++ after) (sym fresh_top)
     ∙ ap (λ (t : List ℕ). fresh (top_of true old) t ++ after) (sym (top_one new (omega (arith, size, made.many)))) in
     rebuilt_done all mid now old new ls ms xs ys before left after taken rebuilt size leaves (same ∙ rebuilt.has.listed) top
+    (omega (
+      arith,
+      ap length made.left,
+      ap one_unless (ap (λ (b : Bool). b || same_list ys xs) (lt-leb (length ys) 252 made.many)
+          ∙ same_list-not ys xs (new_pages all mid old ls ms xs ys before left rebuilt.may rebuilt.has rebuilt.few rebuilt.count made.many made.leaves)),
+    ))
     (λ is.
     let old_pages : old.pages ≡ length ys = sym rebuilt.count ∙ ap length (sym is) in
-    absurd (made.leaves (omega (arith, old_pages, made.many)) (same_leaves all mid old ls ms xs ys before left taken rebuilt is)))
+    absurd (made.leaves (omega (arith, old_pages, made.many)) (same_leaves all mid old ls ms xs ys before left rebuilt.may rebuilt.has rebuilt.few is)))
 
 -- the new object has its pages, by maps that it shares where it can
 pub remap_done : (all mid now : List (List ℕ)) (old new : Ref) (ls ms xs ys before left after taken : List ℕ)
@@ -340,6 +373,24 @@ fresh_self : (xs : List ℕ) → fresh xs xs ≡ []
 fresh_self [] = refl
 fresh_self (x ∷ xs) = rw (eq-eqb x x refl) (fresh_self xs)
 
+-- the same pages need no map
+differing_none : (n : ℕ) (xs : List ℕ) → differing n xs xs ≡ 0
+differing_none zero xs = refl
+differing_none (suc n) xs =
+    let rest = differing_none n xs in
+    omega (arith, rest, ap one_unless (same_list-self (piece n xs)))
+
+or_right : (b c : Bool) → c ≡ true → (b || c) ≡ true
+or_right true c is = refl
+or_right false c is = is
+
+needs_none : (xs : List ℕ) → maps_needed xs xs ≡ 0
+needs_none xs = omega (
+  arith,
+  differing_none (leaf_count (length xs)) xs,
+  ap one_unless (or_right (nat_le (length xs) 252) (same_list xs xs) (same_list-self xs)),
+)
+
 -- nothing changes
 pub remap_none : (all now : List (List ℕ)) (old : Ref) (xs left : List ℕ) → now ≡ all → old.pages ≤ 63504 → addresses_of all old ≡ Ok xs
     → HasRemapped all now old old xs (edited xs [] []) left left
@@ -348,6 +399,7 @@ remap_none all now old xs left same few is =
     record {
       size = sym (addresses_count all old xs few is) ∙ ap length (sym none);
       addresses = ap (λ (b : List (List ℕ)). addresses_of b old) same ∙ is ∙ ap Ok (sym none);
+      count = omega (arith, ap (maps_needed xs) none, needs_none xs);
       maps = λ ls ms is_old is_new.
           let equal : ls ≡ ms = ok_is ls ms (leaves_of all old) is_old (ap (λ (b : List (List ℕ)). leaves_of b old) (sym same) ∙ is_new) in
           let no_leaf : fresh ls ms ≡ [] = ap (fresh ls) (sym equal) ∙ fresh_self ls in

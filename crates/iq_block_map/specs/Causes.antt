@@ -1,5 +1,5 @@
 -- Why an object wasn't read or written.
-use Rattle.std.specs.Prelude.{◌≡◌, ◌⊎◌, ℕ, false, List, [], Ok, Err, Option, Some}
+use Rattle.std.specs.Prelude.{◌≡◌, ◌⊎◌, ℕ, false, List, Ok, Err, Option, Some}
 use Rattle.iq_outside.specs.Faults.{RoseWithin}
 use Rattle.iq_outside.specs.Devices.{block_of}
 use Rattle.iq_block_store.specs.Frames.{has_header}
@@ -35,16 +35,17 @@ abbrev pub IsBadOnWay : Ref → ℕ → ℕ → List (List ℕ) → Type 0
 IsBadOnWay object n block all =
     (address_of all object n ≡ Err block) ⊎ ((address_of all object n ≡ Ok block) × (has_header page_kind block (block_of all block) ≡ false))
 
--- a block wasn't written: no block was left, or the count of faults rose meanwhile
-abbrev pub IsPutFault : MapFault → List ℕ → ℕ → ℕ → Type 0
-IsPutFault (StoreFault before after) left first last = RoseWithin first before after last
-IsPutFault (BadMap block) left first last = ⊥
-IsPutFault NoSpace left first last = left ≡ []
-IsPutFault NoMemory left first last = ⊥
+-- an object wasn't written: too few blocks were left, the count of faults rose meanwhile, or a block that was read is bad, which
+-- the device's blocks tell
+abbrev pub IsEditFault : (ℕ → List (List ℕ) → Type 0) → Type 0 → MapFault → Option (List (List ℕ)) → ℕ → ℕ → Type 0
+IsEditFault IsBad Lacks (StoreFault before after) told first last = RoseWithin first before after last
+IsEditFault IsBad Lacks (BadMap block) told first last = (all : List (List ℕ)) → told ≡ Some all → IsBad block all
+IsEditFault IsBad Lacks NoSpace told first last = Lacks
+IsEditFault IsBad Lacks NoMemory told first last = ⊥
 
--- an object wasn't written: so, or a block that was read is bad, which the device's blocks tell
-abbrev pub IsEditFault : (ℕ → List (List ℕ) → Type 0) → MapFault → Option (List (List ℕ)) → List ℕ → ℕ → ℕ → Type 0
-IsEditFault IsBad (StoreFault before after) told left first last = RoseWithin first before after last
-IsEditFault IsBad (BadMap block) told left first last = (all : List (List ℕ)) → told ≡ Some all → IsBad block all
-IsEditFault IsBad NoSpace told left first last = left ≡ []
-IsEditFault IsBad NoMemory told left first last = ⊥
+-- a block wasn't written: none was left, or the count of faults rose meanwhile
+abbrev pub IsPutFault : Type 0 → MapFault → ℕ → ℕ → Type 0
+IsPutFault Lacks (StoreFault before after) first last = RoseWithin first before after last
+IsPutFault Lacks (BadMap block) first last = ⊥
+IsPutFault Lacks NoSpace first last = Lacks
+IsPutFault Lacks NoMemory first last = ⊥

@@ -1,9 +1,9 @@
 -- Objects that share what didn't change.
-use Rattle.std.specs.Prelude.{◌≡◌, ℕ, ◌+◌, ◌-◌, ◌*◌, ◌<◌, ◌≤◌, true, false, List, [], ◌∷◌, ◌++◌, length, take, drop, nat_eq, if◌then◌else◌, slice_index, slice_set, Ok, Err, Option, Some}
+use Rattle.std.specs.Prelude.{◌≡◌, ℕ, ◌+◌, ◌-◌, ◌*◌, ◌<◌, ◌≤◌, true, false, List, [], ◌∷◌, ◌++◌, length, take, drop, nat_eq, if◌then◌else◌, slice_index, slice_set, Ok, Err, Option, Some, Bool, suc, zero, nat_le, ◌||◌, ◌&&◌}
 use Rattle.std.specs.List.{All, fold}
 use Rattle.iq_block_map.specs.declared.refs.Ref.{Ref}
 use Rattle.iq_block_map.specs.Maps.{is_address}
-use Rattle.iq_block_map.specs.Objects.{used_in, map_at, leaves_of, addresses_of, address_of, top_of}
+use Rattle.iq_block_map.specs.Objects.{used_in, map_at, leaves_of, addresses_of, address_of, top_of, leaf_count}
 use Rattle.iq_block_map.specs.Writing.{holds}
 
 -- pages with some replaced, each of which is a number, from a first one on, and a block
@@ -22,6 +22,27 @@ piece k xs = take 252 (drop (252 * k) xs)
 abbrev pub fresh : List ℕ → List ℕ → List ℕ
 fresh xs [] = []
 fresh xs (y ∷ ys) = (if nat_eq (slice_index xs 0) y then [] else y ∷ []) ++ fresh (drop 1 xs) ys
+
+-- whether two lists are the same
+abbrev pub same_list : List ℕ → List ℕ → Bool
+same_list [] [] = true
+same_list [] (y ∷ ys) = false
+same_list (x ∷ xs) [] = false
+same_list (x ∷ xs) (y ∷ ys) = nat_eq x y && same_list xs ys
+
+-- one for what is not so
+abbrev pub one_unless : Bool → ℕ
+one_unless true = 0
+one_unless false = 1
+
+-- how many of the first leaves name other pages than before
+abbrev pub differing : ℕ → List ℕ → List ℕ → ℕ
+differing zero xs ys = 0
+differing (suc n) xs ys = differing n xs ys + one_unless (same_list (piece n ys) (piece n xs))
+
+-- how many maps an object with some pages needs beside those of the object that it is made of
+abbrev pub maps_needed : List ℕ → List ℕ → ℕ
+maps_needed xs ys = differing (leaf_count (length ys)) xs ys + one_unless (nat_le (length ys) 252 || same_list ys xs)
 
 -- page numbers that ascend, from a first one on and below an end
 abbrev pub AreChanges : ℕ → ℕ → List (ℕ × ℕ) → Type 0
@@ -53,6 +74,7 @@ pub record SharesMaps (old new : Ref) (xs ys before after ls ms : List ℕ) : Ty
 pub record HasRemapped (all now : List (List ℕ)) (old new : Ref) (xs ys before after : List ℕ) : Type 0 where
   pub size : new.pages ≡ length ys
   pub addresses : addresses_of now new ≡ Ok ys
+  pub count : length before ≡ maps_needed xs ys + length after
   pub maps : (ls ms : List ℕ) → leaves_of all old ≡ Ok ls → leaves_of now new ≡ Ok ms → SharesMaps old new xs ys before after ls ms
 
 -- a block was taken for a page, and the object became one that has it, by the blocks that were left then
@@ -61,6 +83,10 @@ pub record PutsPage (with : ℕ → List ℕ) (all now : List (List ℕ)) (old n
   pub left : List ℕ
   pub first : before ≡ at ∷ left
   pub remapped : HasRemapped all now old new xs (with at) left after
+
+-- fewer blocks are left than a page and the maps over it take: the first would be the page's
+abbrev pub LacksPage : List ℕ → List ℕ → (ℕ → List ℕ) → Type 0
+LacksPage left xs with = length left < 1 + maps_needed xs (with (slice_index left 0))
 
 -- it holds of the blocks of a device, where that tells them
 abbrev pub IsNowIn : (List (List ℕ) → Type 0) → Option (List (List ℕ)) → Type 0

@@ -1,12 +1,12 @@
 -- Leaves and topmost maps, one at a time: what the calls between a remap and its blocks say of each.
-use Rattle.std.specs.Prelude.{◌≡◌, ◌≢◌, ◌⊎◌, ℕ, ◌-◌, ◌<◌, ◌≤◌, false, List, [], ◌∷◌, ◌++◌, length, take, drop, replicate, nat_eq, nat_lt, Bool, if◌then◌else◌, slice_index, slice_set, Result, Ok, Err}
+use Rattle.std.specs.Prelude.{◌≡◌, ◌≢◌, ◌⊎◌, ℕ, ◌-◌, ◌<◌, ◌≤◌, false, List, [], ◌∷◌, ◌++◌, length, take, drop, replicate, nat_eq, nat_lt, Bool, if◌then◌else◌, slice_index, slice_set, Result, Ok, Err, ◌+◌}
 use Rattle.std.specs.List.{All}
 use Rattle.iq_block_map.specs.declared.refs.Ref.{Ref}
 use Rattle.iq_block_map.specs.Maps.{map_block}
 use Rattle.iq_block_map.specs.Objects.{leaf_count, used_in, map_at, listed}
 use Rattle.iq_block_map.specs.Refs.{MayBe}
 use Rattle.iq_block_map.specs.Writing.{holds}
-use Rattle.iq_block_map.specs.Editing.{piece, fresh}
+use Rattle.iq_block_map.specs.Editing.{piece, fresh, differing}
 
 -- whether a change is of a page before one
 abbrev pub below : ℕ → ℕ × ℕ → Bool
@@ -34,6 +34,7 @@ pub record HasLeavesAt (all now : List (List ℕ)) (ls ms xs ys before after : L
   pub may : MayBe (length all) n ms
   pub listed : listed false now (length ys) (take n ms) ≡ Ok ys
   pub taken : before ≡ fresh ls (take n ms) ++ after
+  pub count : length before ≡ differing n xs ys + length after
   pub shares : (k : ℕ) → k < n → piece k ys ≡ piece k xs → slice_index ms k ≡ slice_index ls k
   pub differs : (k : ℕ) → k < n → slice_index ms k ≡ slice_index ls k → piece k ys ≡ piece k xs
   pub apart : (k : ℕ) → k < n → holds after (slice_index ms k) ≡ false
@@ -93,3 +94,7 @@ pub record NewTop (all now : List (List ℕ)) (old : Ref) (ls ms : List ℕ) (pa
 abbrev pub EndsTop : List (List ℕ) → List (List ℕ) → Ref → List ℕ → List ℕ → ℕ → ℕ → List ℕ → List ℕ → Type 0
 EndsTop all now old ls ms pages root before after =
     OnlyLeaf all now ms pages root before after ⊎ (SameTop all now old ls ms pages root before after ⊎ NewTop all now old ls ms pages root before after)
+
+-- fewer blocks are left than the leaves take whose pages are other ones
+abbrev pub LacksLeaf : List ℕ → List ℕ → List ℕ → Type 0
+LacksLeaf left xs ys = length left < differing (leaf_count (length ys)) xs ys

@@ -1,16 +1,11 @@
 -- The bytes of a map: 252 numbers of 4 bytes behind its header. Those in use name blocks of the store, the others are zero.
-use Rattle.std.specs.Prelude.{ℕ, zero, suc, ◌+◌, Bool, ◌&&◌, List, [], ◌∷◌, take, drop, nat_eq, nat_lt, nat_le}
+use Rattle.std.specs.Prelude.{ℕ, Bool, ◌&&◌, List, take, drop, nat_eq, nat_lt, nat_le}
 use Rattle.std.specs.List.{list_all, flat_map}
-use Rattle.iq_block_store.specs.Frames.{number_at, bytes_of, map_kind, has_header, framed}
+use Rattle.iq_block_store.specs.Frames.{number_at, numbers_at, bytes_of, map_kind, has_header, framed}
 
 -- the kind of a page
 abbrev pub page_kind : ℕ
 page_kind = 5
-
--- so many numbers of 4 bytes, from a place on
-abbrev pub numbers_at : List ℕ → ℕ → ℕ → List ℕ
-numbers_at block i zero = []
-numbers_at block i (suc n) = number_at block i ∷ numbers_at block (i + 4) n
 
 -- the numbers of a map
 unfoldable pub places : List ℕ → List ℕ

@@ -1,11 +1,11 @@
 //! Writing an object anew, by maps that it shares with the old one where their pages are the same.
-ghost use Rattle.std.specs.Prelude.{◌≡◌, ◌≢◌, ◌⊎◌, ◌≤◌, ◌<◌, ◌*◌, ◌+◌, ◌-◌, ◌++◌, ℕ, List, Some, Ok, Err, length, take, IfOk, IfErr, IsTrue, IsFalse};
+ghost use Rattle.std.specs.Prelude.{◌≡◌, ◌≢◌, ◌⊎◌, ◌≤◌, ◌<◌, ◌*◌, ◌+◌, ◌-◌, ◌++◌, ℕ, List, [], Some, Ok, Err, length, take, IfOk, IfErr, IsTrue, IsFalse};
 ghost use Rattle.iq_block_map.specs.Refs.{IsIn, MayBe};
 ghost use Rattle.iq_block_map.specs.Objects.{leaf_count, used_in, leaves_of, addresses_of};
 ghost use Rattle.iq_block_map.specs.Takers.{AreSpare};
 ghost use Rattle.iq_block_map.specs.Writing.{HasPut};
-ghost use Rattle.iq_block_map.specs.Editing.{replaced_from, edited, AreChanges, AreBlocks, AreApart, new_blocks, HasRemapped, IsNowIn, IsBadMap};
-ghost use Rattle.iq_block_map.specs.Leaves.{below, padded, leaf_at, EndsLeaf, IsOpened, AreOpened, IsBadLeaf, HasLeaves, EndsTop};
+ghost use Rattle.iq_block_map.specs.Editing.{replaced_from, edited, AreChanges, AreBlocks, AreApart, new_blocks, maps_needed, HasRemapped, IsNowIn, IsBadMap};
+ghost use Rattle.iq_block_map.specs.Leaves.{below, padded, leaf_at, EndsLeaf, IsOpened, AreOpened, IsBadLeaf, HasLeaves, LacksLeaf, EndsTop};
 ghost use Rattle.iq_block_map.specs.Causes.{IsEditFault, IsReadFault, IsPutFault};
 ghost use Rattle.iq_block_store.specs.Looks.{HasLooked};
 ghost use Rattle.std.specs.List.{prefix_len};
@@ -47,7 +47,9 @@ pub fn remap<D: Device, T: Taker>(
     ensures pages { IfOk result (λ new. new.pages ≡ old.pages + length added.now) }
     ensures cause { IfErr result (λ e. IsEditFault
         (λ b all. AreApart all old (T.left space.old) → (leaves_of all old ≡ Err b) ⊎ IsBadMap old b all)
-        e (D.blocks disk.old) (T.left space.new) (D.faults disk.old) (D.faults disk.new)) }
+        ((all : List (List ℕ)) (xs : List ℕ) → D.blocks disk.old ≡ Some all → AreApart all old (T.left space.old) → addresses_of all old ≡ Ok xs
+        → length (T.left space.old) < maps_needed xs (edited xs changed.now added.now))
+        e (D.blocks disk.old) (D.faults disk.old) (D.faults disk.new)) }
 {
     if changed.is_empty() && added.is_empty() {
         return Ok(old);
@@ -77,7 +79,9 @@ fn rebuild<D: Device, T: Taker>(
     ensures pages { IfOk result (λ new. new.pages ≡ old.pages + length added.now) }
     ensures cause { IfErr result (λ e. IsEditFault
         (λ b all. AreApart all old (T.left space.old) → (leaves_of all old ≡ Err b) ⊎ IsBadMap old b all)
-        e (D.blocks disk.old) (T.left space.new) (D.faults disk.old) (D.faults disk.new)) }
+        ((all : List (List ℕ)) (xs : List ℕ) → D.blocks disk.old ≡ Some all → AreApart all old (T.left space.old) → addresses_of all old ≡ Ok xs
+        → length (T.left space.old) < maps_needed xs (edited xs changed.now added.now))
+        e (D.blocks disk.old) (D.faults disk.old) (D.faults disk.new)) }
 {
     let count = count_of(disk)?;
     let before = leaves_of(disk, count, old)?;
@@ -100,7 +104,9 @@ fn top<D: Device, T: Taker>(
     ensures put { HasPut D.blocks D.faults D.tells D.clock D.image (T.left space.old) (T.left space.new) disk.old disk.new }
     ensures ok { IfOk result (λ root. (all : List (List ℕ)) → D.blocks disk.old ≡ Some all
         → IsNowIn (λ now. EndsTop all now old before.now leaves.now pages root (T.left space.old) (T.left space.new)) (D.blocks disk.new)) }
-    ensures cause { IfErr result (λ e. IsPutFault e (T.left space.new) (D.faults disk.old) (D.faults disk.new)) }
+    ensures cause { IfErr result (λ e. IsPutFault
+        ((T.left space.old ≡ []) × (252 < pages) × (252 < old.pages → leaves.now ≢ before.now))
+        e (D.faults disk.old) (D.faults disk.new)) }
 {
     if pages <= 252 {
         return Ok(leaves[0]);
@@ -141,7 +147,9 @@ fn rewrite_leaves<D: Device, T: Taker>(
         → IsOpened all old before.now xs (T.left space.old)
         → IsNowIn (λ now. HasLeaves all now before.now leaves xs (edited xs changed.now added.now) (T.left space.old) (T.left space.new)) (D.blocks disk.new)) }
     ensures cause { IfErr result (λ e. IsEditFault (λ b all. AreOpened all old before.now (T.left space.old) → IsBadLeaf old before.now b all)
-        e (D.blocks disk.old) (T.left space.new) (D.faults disk.old) (D.faults disk.new)) }
+        ((all : List (List ℕ)) (xs : List ℕ) → D.blocks disk.old ≡ Some all → IsOpened all old before.now xs (T.left space.old)
+        → LacksLeaf (T.left space.old) xs (edited xs changed.now added.now))
+        e (D.blocks disk.old) (D.faults disk.old) (D.faults disk.new)) }
 {
     let mut leaves = *before;
     let mut to_change = changed;
@@ -188,7 +196,9 @@ fn rewrite_leaf<D: Device, T: Taker>(
         → leaf_at all leaf.used leaf.at ≡ Ok xs
         → IsNowIn (λ now. EndsLeaf all now leaf.at made xs (replaced_from leaf.first xs here.now ++ more.now) (T.left space.old) (T.left space.new)) (D.blocks disk.new)) }
     ensures cause { IfErr result (λ e. IsEditFault (λ b all. (b ≡ leaf.at) × (leaf_at all leaf.used leaf.at ≡ Err leaf.at))
-        e (D.blocks disk.old) (T.left space.new) (D.faults disk.old) (D.faults disk.new)) }
+        ((T.left space.old ≡ []) × ((all : List (List ℕ)) (xs : List ℕ) → D.blocks disk.old ≡ Some all → leaf_at all leaf.used leaf.at ≡ Ok xs
+        → (replaced_from leaf.first xs here.now ++ more.now) ≢ xs))
+        e (D.blocks disk.old) (D.faults disk.old) (D.faults disk.new)) }
 {
     if here.is_empty() && more.is_empty() {
         return Ok(leaf.at);

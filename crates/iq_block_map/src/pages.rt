@@ -4,7 +4,7 @@ ghost use Rattle.iq_block_map.specs.Refs.{IsIn};
 ghost use Rattle.iq_block_map.specs.Objects.{leaves_of, addresses_of, pages_of};
 ghost use Rattle.iq_block_map.specs.Takers.{AreSpare};
 ghost use Rattle.iq_block_map.specs.Writing.{HasPut};
-ghost use Rattle.iq_block_map.specs.Editing.{AreApart, IsNowIn, IsBadMap, PutsPage};
+ghost use Rattle.iq_block_map.specs.Editing.{AreApart, IsNowIn, IsBadMap, PutsPage, LacksPage};
 ghost use Rattle.iq_block_map.specs.Causes.{IsEditFault};
 
 use crate::editing::remap;
@@ -36,7 +36,9 @@ pub fn with_page<D: Device, T: Taker>(
     ensures pages { IfOk result (λ new. new.pages ≡ object.pages) }
     ensures cause { IfErr result (λ e. IsEditFault
         (λ b all. AreApart all object (T.left space.old) → (leaves_of all object ≡ Err b) ⊎ IsBadMap object b all)
-        e (D.blocks disk.old) (T.left space.new) (D.faults disk.old) (D.faults disk.new)) }
+        ((all : List (List ℕ)) (xs : List ℕ) → D.blocks disk.old ≡ Some all → AreApart all object (T.left space.old) → addresses_of all object ≡ Ok xs
+        → LacksPage (T.left space.old) xs (λ at. slice_set xs n at))
+        e (D.blocks disk.old) (D.faults disk.old) (D.faults disk.new)) }
 {
     let at = put(disk, space, PAGE, 0, from)?;
     remap(disk, space, object, &[(n, at)], &[])
@@ -63,7 +65,9 @@ pub fn push<D: Device, T: Taker>(
     ensures pages { IfOk result (λ new. new.pages ≡ object.pages + 1) }
     ensures cause { IfErr result (λ e. IsEditFault
         (λ b all. AreApart all object (T.left space.old) → (leaves_of all object ≡ Err b) ⊎ IsBadMap object b all)
-        e (D.blocks disk.old) (T.left space.new) (D.faults disk.old) (D.faults disk.new)) }
+        ((all : List (List ℕ)) (xs : List ℕ) → D.blocks disk.old ≡ Some all → AreApart all object (T.left space.old) → addresses_of all object ≡ Ok xs
+        → LacksPage (T.left space.old) xs (λ at. xs ++ at ∷ []))
+        e (D.blocks disk.old) (D.faults disk.old) (D.faults disk.new)) }
 {
     let at = put(disk, space, PAGE, 0, from)?;
     remap(disk, space, object, &[], &[at])

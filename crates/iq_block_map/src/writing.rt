@@ -1,5 +1,5 @@
 //! Writing blocks that were taken for it.
-ghost use Rattle.std.specs.Prelude.{◌≡◌, ◌<◌, ◌^◌, ℕ, ◌∷◌, List, Some, IfOk, IfErr, slice_set};
+ghost use Rattle.std.specs.Prelude.{◌≡◌, ◌<◌, ◌^◌, ℕ, ◌∷◌, List, [], Some, IfOk, IfErr, slice_set};
 ghost use Rattle.iq_block_store.specs.Frames.{framed};
 ghost use Rattle.iq_block_map.specs.Takers.{AreSpare};
 ghost use Rattle.iq_block_map.specs.Writing.{HasPut};
@@ -23,7 +23,7 @@ pub fn put<D: Device, T: Taker>(
     ensures left { IfOk result (λ at. T.left space.old ≡ at ∷ T.left space.new) }
     ensures block { IfOk result (λ at. (all : List (List ℕ)) → D.blocks disk.old ≡ Some all
         → D.blocks disk.new ≡ Some (slice_set all at (framed kind at level payload.now))) }
-    ensures cause { IfErr result (λ e. IsPutFault e (T.left space.new) (D.faults disk.old) (D.faults disk.new)) }
+    ensures cause { IfErr result (λ e. IsPutFault (T.left space.old ≡ []) e (D.faults disk.old) (D.faults disk.new)) }
 {
     let Some(at) = space.take() else {
         return Err(MapFault::NoSpace);

@@ -1,11 +1,12 @@
 -- A header reads as it was written.
-use Rattle.std.specs.Prelude.{◌≡◌, ◌⊎◌, ℕ, ◌+◌, ◌^◌, ◌<◌, Bool, true, false, ◌||◌, List, ◌++◌, length, drop, nat_eq}
-use Rattle.std.proofs.Common.{refl, ap, ◌∙◌, inl, inr, arith, lit<, append_assoc, length-append}
+use Rattle.std.specs.Prelude.{◌≡◌, ◌⊎◌, ℕ, ◌+◌, ◌^◌, ◌<◌, Bool, true, false, ◌||◌, List, ◌++◌, length, drop, nat_eq, suc, [], ◌∷◌}
+use Rattle.std.specs.List.{flat_map, All}
+use Rattle.std.proofs.Common.{refl, ap, ◌∙◌, inl, inr, arith, lit<, append_assoc, length-append, sym}
 use Rattle.std.proofs.Math.Seq.{drop-append-add}
 use Rattle.std.proofs.lemmas.Bool.{eq-eqb}
 use Rattle.byteorder.specs.Endian.{little_number}
 use Rattle.byteorder.specs.Numbers.{little_number-reads_back, length-bytes_low_first}
-use Rattle.iq_block_store.specs.Frames.{number_at, bytes_of, mark, map_kind, has_header, header, framed, payload_of}
+use Rattle.iq_block_store.specs.Frames.{number_at, numbers_at, bytes_of, mark, map_kind, has_header, header, framed, payload_of}
 
 pub length-bytes_of : (x : ℕ) → length (bytes_of x) ≡ 4
 unfolding bytes_of
@@ -103,3 +104,20 @@ payload_of-framed kind at level payload =
     let size : 16 ≡ length (header kind at level) + 0 = omega (arith, length-header kind at level) in
     ap (λ (n : ℕ). drop n (framed kind at level payload)) size
     ∙ drop-append-add (header kind at level) payload 0
+
+-- numbers that were written one after the other are read
+pub numbers_back : (block front rest xs : List ℕ) (i : ℕ) → All (λ x. x < 2 ^ 32) xs → block ≡ front ++ (flat_map bytes_of xs ++ rest)
+    → length front ≡ i → numbers_at block i (length xs) ≡ xs
+numbers_back block front rest [] i fit is size = refl
+numbers_back block front rest (x ∷ xs) i fit is size =
+    let split : block ≡ front ++ (bytes_of x ++ (flat_map bytes_of xs ++ rest))
+    = is ∙ ap (λ (t : List ℕ). front ++ t) (append_assoc (bytes_of x) (flat_map bytes_of xs) rest) in
+    let fits : x < 2 ^ 32 = fit 0 0 (omega arith) in
+    let rest_fit : All (λ x. x < 2 ^ 32) xs = λ k d within. fit (suc k) d (omega (arith, within)) in
+    let head : number_at block i ≡ x
+    = ap (λ (t : List ℕ). number_at t i) split ∙ ap (number_at (front ++ (bytes_of x ++ (flat_map bytes_of xs ++ rest)))) (omega arith)
+    ∙ number_at-append front _ i 0 size ∙ number_at-bytes_of x _ fits in
+    let longer : length (front ++ bytes_of x) ≡ i + 4 = omega (arith, size, length-append front (bytes_of x), length-bytes_of x) in
+    let rest_is : block ≡ (front ++ bytes_of x) ++ (flat_map bytes_of xs ++ rest) = split ∙ sym (append_assoc front (bytes_of x) (flat_map bytes_of xs ++ rest)) in
+    ap (λ (m : ℕ). m ∷ numbers_at block (i + 4) (length xs)) head
+    ∙ ap (λ (ms : List ℕ). x ∷ ms) (numbers_back block (front ++ bytes_of x) rest xs (i + 4) rest_fit rest_is longer)

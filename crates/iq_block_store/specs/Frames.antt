@@ -1,10 +1,15 @@
 -- The bytes of a block: a header of 16 bytes, and a payload of 1,008.
-use Rattle.std.specs.Prelude.{ℕ, Bool, ◌&&◌, ◌||◌, List, ◌++◌, drop, nat_eq}
+use Rattle.std.specs.Prelude.{ℕ, Bool, ◌&&◌, ◌||◌, List, ◌++◌, drop, nat_eq, zero, suc, ◌+◌, [], ◌∷◌}
 use Rattle.byteorder.specs.Endian.{little_number, little_bytes}
 
 -- the number in the 4 bytes from a place on, the lowest first
 unfoldable pub number_at : List ℕ → ℕ → ℕ
 number_at block i = little_number 4 (drop i block)
+
+-- so many numbers of 4 bytes each, from a place on
+abbrev pub numbers_at : List ℕ → ℕ → ℕ → List ℕ
+numbers_at block i zero = []
+numbers_at block i (suc n) = number_at block i ∷ numbers_at block (i + 4) n
 
 -- the 4 bytes of a number
 unfoldable pub bytes_of : ℕ → List ℕ

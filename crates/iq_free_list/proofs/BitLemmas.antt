@@ -4,7 +4,8 @@ use Rattle.std.proofs.Common.{refl, sym, ap, subst, ◌∙◌, inl, inr, arith, 
 use Rattle.std.proofs.lemmas.List.{set-get_or, length-replicate}
 use Rattle.std.proofs.lemmas.List.Elements.{All-nil, All-cons}
 use Rattle.std.proofs.lemmas.Bool.{lt-ltb, le-ltb, eq-eqb, ne_eqb, cases_lt, cases_order}
-use Rattle.iq_free_list.specs.FreeList.{free_of, set_from, put, bit_of, IsHinted, IsFirstSet, IsAscending}
+use Rattle.iq_free_list.specs.FreeList.{free_of, set_from, put, bit_of, IsHinted, IsAscending}
+use Rattle.iq_bitmap.specs.Bits.{IsNextSet, HasNoneFrom}
 
 put_below : (b x : ℕ) (xs : List ℕ) → b < x → put b (x ∷ xs) ≡ b ∷ x ∷ xs
 put_below b x xs under = rw (lt-ltb b x under) refl
@@ -88,24 +89,23 @@ length-set_from s (true ∷ bits) = omega (arith, length-set_from (s + 1) bits)
 length-set_from s (false ∷ bits) = omega (arith, length-set_from (s + 1) bits)
 
 -- below the first set bit from the hint on no bit is set
-before_first : (bits : List Bool) (hint count i : ℕ) → IsHinted bits hint count → IsFirstSet bits hint i
+before_first : (bits : List Bool) (hint count i : ℕ) → IsHinted bits hint count → IsNextSet bits hint i
     → (k : ℕ) → k < i → bit_of bits k ≡ false
 before_first bits hint count i hinted first k under =
-    elim (cases_lt k hint) [ inl early ↦ hinted.below k early | inr late ↦ first.between k late under ]
+    elim (cases_lt k hint) [ inl early ↦ hinted.below k early | inr late ↦ first.before k late under ]
 
 -- where no bit is set from the hint on, no block is free
-pub take_none : (bits : List Bool) (hint count : ℕ) → IsHinted bits hint count → ((i : ℕ) → hint ≤ i → bit_of bits i ≡ false)
-    → set_from 0 bits ≡ []
+pub take_none : (bits : List Bool) (hint count : ℕ) → IsHinted bits hint count → HasNoneFrom bits hint → set_from 0 bits ≡ []
 take_none bits hint count hinted none =
     set_from_none 0 bits (λ i. elim (cases_lt i hint) [ inl early ↦ hinted.below i early | inr late ↦ none i late ])
 
 -- what is taken is the least, and the others stay
-pub take_first : (bits : List Bool) (hint count i : ℕ) → IsHinted bits hint count → IsFirstSet bits hint i
+pub take_first : (bits : List Bool) (hint count i : ℕ) → IsHinted bits hint count → IsNextSet bits hint i
     → set_from 0 bits ≡ i ∷ set_from 0 (slice_set bits i false)
-take_first bits hint count i hinted first = set_from_take bits i first.set (before_first bits hint count i hinted first)
+take_first bits hint count i hinted first = set_from_take bits i first.on (before_first bits hint count i hinted first)
 
 -- after a take the hint stands behind what was taken
-pub take_hinted : (bits : List Bool) (hint count i : ℕ) → IsHinted bits hint count → IsFirstSet bits hint i
+pub take_hinted : (bits : List Bool) (hint count i : ℕ) → IsHinted bits hint count → IsNextSet bits hint i
     → IsHinted (slice_set bits i false) (i + 1) (count - 1)
 take_hinted bits hint count i hinted first = record {
   below = λ k under. elim (cases_order k i) [
@@ -164,7 +164,7 @@ pub first_ascending : (block : ℕ) (blocks rest : List ℕ) → IsAscending blo
 first_ascending block blocks rest ascending first = (subst IsAscending first ascending).0
 
 -- what is left after a take is past what was taken
-pub take_past : (bits : List Bool) (hint count i : ℕ) → IsHinted bits hint count → IsFirstSet bits hint i
+pub take_past : (bits : List Bool) (hint count i : ℕ) → IsHinted bits hint count → IsNextSet bits hint i
     → All (λ b. i < b) (set_from 0 (slice_set bits i false))
 take_past bits hint count i hinted first =
     first_ascending i (set_from 0 bits) (set_from 0 (slice_set bits i false)) (ascending_set_from 0 bits)

@@ -1,5 +1,5 @@
 -- What a list of free blocks is.
-use Rattle.std.specs.Prelude.{◌≡◌, ℕ, ◌+◌, ◌<◌, ◌≤◌, Bool, true, false, List, [], ◌∷◌, length, fold, nat_lt, nat_eq, ◌^◌, if◌then◌else◌, slice_index_or, All}
+use Rattle.std.specs.Prelude.{◌≡◌, ℕ, ◌+◌, ◌<◌, Bool, true, false, List, [], ◌∷◌, length, fold, nat_lt, nat_eq, ◌^◌, if◌then◌else◌, slice_index_or, All}
 
 -- how many blocks there are, and the free ones in ascending order
 pub record Free : Type 0 where
@@ -33,13 +33,6 @@ put_all blocks xs = fold (λ (ys : List ℕ) (block : ℕ). put block ys) xs blo
 -- a bit, which is not set past the end
 abbrev pub bit_of : List Bool → ℕ → Bool
 bit_of bits i = slice_index_or bits i false
-
--- the first set bit from a place on
-pub record IsFirstSet (bits : List Bool) (from found : ℕ) : Type 0 where
-  pub since : from ≤ found
-  pub within : found < length bits
-  pub set : bit_of bits found ≡ true
-  pub between : (i : ℕ) → from ≤ i → i < found → bit_of bits i ≡ false
 
 -- no bit below the hint is set, and so many are set
 pub record IsHinted (bits : List Bool) (hint count : ℕ) : Type 0 where

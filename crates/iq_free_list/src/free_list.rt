@@ -2,17 +2,17 @@
 ghost use Rattle.std.specs.Prelude.{◌≡◌, ◌<◌, [], ◌∷◌, length, take, drop, min, All, IfOk, MatchOption, IfSome, IsTrue, ◌↔◌};
 ghost use Rattle.iq_free_list.specs.FreeList.{put, put_all, IsAscending};
 
-use crate::bits::{first_from, is_set};
 use iq_base::NoMemory;
+use iq_bitmap::Bitmap;
 use std::alloc::Global;
 use std::marker::Model;
 
 /// The free blocks among so many, as a bit a block. Taking looks from the last place taken on, and from a block given below
-/// it.
+/// it; it passes 64 blocks in a step.
 #[derive(Debug, Drop)]
 pub struct FreeList {
-    bits: Vec<bool>,
-    hint: usize,
+    bits: Bitmap,
+    hint: u32,
     len: u32,
 }
 
@@ -21,19 +21,18 @@ impl Model for FreeList {
 
     ghost Value = { Free };
 
-    ghost view = { λ f. free_of f.bits.items };
+    ghost view = { λ f. free_of f.bits };
 
-    ghost invariant = { λ f. IsHinted f.bits.items f.hint f.len };
+    ghost invariant = { λ f. IsHinted f.bits f.hint f.len };
 }
 
 impl FreeList {
-    /// A list of so many blocks, none of which is free.
+    /// A list of so many blocks, none of which is free. It takes memory, a word for each 64 blocks.
     pub fn none(alloc: Global, count: u32) -> Result<FreeList, NoMemory>
         ensures { IfOk result (λ f. f ≡ record { count = count; blocks = [] }) }
     {
-        let bits = vec![in alloc; false; count as usize]?;
         Ok(FreeList {
-            bits,
+            bits: Bitmap::empty(alloc, count)?,
             hint: 0,
             len: 0,
         })
@@ -51,13 +50,11 @@ impl FreeList {
         if self.len == 0 {
             return None;
         }
-        let Some(i) = first_from(&self.bits, self.hint) else {
-            return None;
-        };
-        self.bits[i] = false;
-        self.hint = i + 1;
+        let block = self.bits.next(self.hint)?;
+        self.bits.set(block, false);
+        self.hint = block + 1;
         self.len -= 1;
-        Some(i as u32)
+        Some(block)
     }
 
     /// Moves the least blocks into another list of as many, at most so many of them, and answers how many. It takes no
@@ -85,12 +82,11 @@ impl FreeList {
         ensures given { self.new.blocks ≡ put block self.old.blocks }
         ensures count { self.new.count ≡ self.old.count }
     {
-        let i = block as usize;
-        if is_set(&self.bits, i) {
+        if self.bits.get(block) {
             return;
         }
-        self.bits[i] = true;
-        self.hint = self.hint.min(i);
+        self.bits.set(block, true);
+        self.hint = self.hint.min(block);
         self.len += 1;
     }
 
@@ -115,6 +111,6 @@ impl FreeList {
     pub fn count(&self) -> u32
         ensures { result ≡ self.now.count }
     {
-        self.bits.len() as u32
+        self.bits.len()
     }
 }

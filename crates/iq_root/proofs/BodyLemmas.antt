@@ -1,13 +1,12 @@
 -- A body and a gate read as they were written.
-use Rattle.std.specs.Prelude.{◌≡◌, ℕ, ◌+◌, ◌-◌, ◌*◌, ◌%◌, ◌^◌, ◌<◌, ◌≤◌, true, List, [], ◌∷◌, ◌++◌, length, flat_map, nat_eq, nat_le, nat_lt, All}
+use Rattle.std.specs.Prelude.{◌≡◌, ℕ, ◌+◌, ◌-◌, ◌*◌, ◌%◌, ◌^◌, ◌<◌, ◌≤◌, true, List, ◌++◌, length, flat_map, nat_eq, nat_le, nat_lt}
 use Rattle.std.proofs.Common.{refl, sym, ap, ◌∙◌, inr, arith, append_assoc, length-append}
 use Rattle.std.proofs.lemmas.Bool.{lt-ltb, le-leb, eq-eqb, and_from}
-use Rattle.std.proofs.lemmas.List.Elements.{All-head, All-tail}
 use Rattle.byteorder.specs.Endian.{little_number, little_bytes}
 use Rattle.byteorder.specs.Numbers.{little_number-reads_back, length-bytes_low_first}
-use Rattle.iq_block_store.specs.Frames.{number_at, bytes_of, has_header, header, framed, payload_of}
-use Rattle.iq_block_store.proofs.FrameLemmas.{length-header, has_header-framed, length-bytes_of, number_at-bytes_of, number_at-append, number_at-framed, payload_of-framed}
-use Rattle.iq_root.specs.Roots.{long_at, long_bytes, zeros, numbers_at, root_of, body_page, gate_page, body_block, gate_block, body_kind, gate_kind, least_format, most_format, is_valid}
+use Rattle.iq_block_store.specs.Frames.{number_at, bytes_of, has_header, header, framed, payload_of, numbers_at}
+use Rattle.iq_block_store.proofs.FrameLemmas.{length-header, has_header-framed, length-bytes_of, number_at-bytes_of, number_at-append, number_at-framed, payload_of-framed, numbers_back}
+use Rattle.iq_root.specs.Roots.{long_at, long_bytes, zeros, root_of, body_page, gate_page, body_block, gate_block, body_kind, gate_kind, least_format, most_format, is_valid}
 use Rattle.iq_root.specs.Pages.{RootFits}
 use Rattle.iq_root.specs.declared.root.Root.{Root}
 
@@ -58,21 +57,6 @@ body_tables slot root few =
     ∙ number_at-append (bytes_of root.count) _ 4 0 (length-bytes_of root.count)
     ∙ number_at-bytes_of (length root.tables) _ (omega (arith, few))
 
--- numbers that were written one after the other are read
-numbers_read : (block front rest xs : List ℕ) (n : ℕ) → All (λ x. x < 2 ^ 32) xs → block ≡ front ++ (flat_map bytes_of xs ++ rest) → length front ≡ n
-    → numbers_at block n (length xs) ≡ xs
-numbers_read block front rest [] n fit is size = refl
-numbers_read block front rest (x ∷ xs) n fit is size =
-    let split : block ≡ front ++ (bytes_of x ++ (flat_map bytes_of xs ++ rest))
-    = is ∙ ap (λ (t : List ℕ). front ++ t) (append_assoc (bytes_of x) (flat_map bytes_of xs) rest) in
-    let head : number_at block n ≡ x
-    = ap (λ (t : List ℕ). number_at t n) split ∙ ap (number_at (front ++ (bytes_of x ++ (flat_map bytes_of xs ++ rest)))) (omega arith)
-    ∙ number_at-append front _ n 0 size ∙ number_at-bytes_of x _ (All-head (λ (y : ℕ). y < 2 ^ 32) x xs fit) in
-    let longer : length (front ++ bytes_of x) ≡ n + 4 = omega (arith, size, length-append front (bytes_of x), length-bytes_of x) in
-    let rest_is : block ≡ (front ++ bytes_of x) ++ (flat_map bytes_of xs ++ rest) = split ∙ sym (append_assoc front (bytes_of x) (flat_map bytes_of xs ++ rest)) in
-    ap (λ (m : ℕ). m ∷ numbers_at block (n + 4) (length xs)) head
-    ∙ ap (λ (ms : List ℕ). x ∷ ms) (numbers_read block (front ++ bytes_of x) rest xs (n + 4) (All-tail (λ (y : ℕ). y < 2 ^ 32) x xs fit) rest_is longer)
-
 -- the pieces before a body's tables
 body_parts : (h a b c d rest : List ℕ) → h ++ (a ++ (b ++ (c ++ (d ++ rest)))) ≡ (h ++ (a ++ (b ++ (c ++ d)))) ++ rest
 body_parts h a b c d rest =
@@ -114,7 +98,7 @@ root_of_body slot root fits =
     (bytes_of (length root.tables)) (flat_map bytes_of root.tables ++ zeros (988 - 4 * length root.tables)) in
     let size : length before ≡ 36 = body_front slot root in
     let tables : numbers_at (body_block slot root) 36 (number_at (body_block slot root) 32) ≡ root.tables
-    = ap (numbers_at (body_block slot root) 36) few ∙ numbers_read (body_block slot root) before _ root.tables 36 fits.tables parts size in
+    = ap (numbers_at (body_block slot root) 36) few ∙ numbers_back (body_block slot root) before _ root.tables 36 fits.tables parts size in
     Root-ext _ _ (body_tells slot root fits.generation) (body_format slot root fits.format) (body_count slot root fits.count) tables
 
 -- a slot that was written is valid

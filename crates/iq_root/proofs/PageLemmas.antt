@@ -4,8 +4,8 @@ use Rattle.std.proofs.Common.{refl, sym, ap, ◌∙◌, arith, append_assoc, len
 use Rattle.std.proofs.Math.Seq.{take-append_seam, drop-append_seam}
 use Rattle.std.proofs.lemmas.List.{drop-replicate, take_more, flat_map_more}
 use borrow.Rule.Slice.PartMut.{put_mid}
-use Rattle.iq_block_store.specs.Frames.{number_at, bytes_of}
-use Rattle.iq_root.specs.Roots.{zeros, long_bytes, numbers_at, body_page}
+use Rattle.iq_block_store.specs.Frames.{number_at, bytes_of, numbers_at}
+use Rattle.iq_root.specs.Roots.{zeros, long_bytes, body_page}
 use Rattle.iq_root.specs.Pages.{IsDone}
 use Rattle.iq_root.specs.declared.root.Root.{Root}
 

@@ -1,8 +1,8 @@
 -- Where roots stand, what they say, and which is the newest. Slot 0 is blocks 0 and 1, slot 1 is blocks 2 and 3: a body, then a gate.
-use Rattle.std.specs.Prelude.{ℕ, zero, suc, ◌+◌, ◌*◌, ◌-◌, ◌%◌, ◌^◌, Bool, ◌&&◌, List, [], ◌∷◌, ◌++◌, length, drop, replicate, flat_map, nat_eq, nat_lt, nat_le, if◌then◌else◌, Option, Some, None}
+use Rattle.std.specs.Prelude.{ℕ, ◌+◌, ◌*◌, ◌-◌, ◌%◌, ◌^◌, Bool, ◌&&◌, List, ◌++◌, length, drop, replicate, flat_map, nat_eq, nat_lt, nat_le, if◌then◌else◌, Option, Some, None}
 use Rattle.byteorder.specs.Endian.{little_number, little_bytes}
 use Rattle.iq_outside.specs.Devices.{block_of}
-use Rattle.iq_block_store.specs.Frames.{number_at, bytes_of, has_header, framed}
+use Rattle.iq_block_store.specs.Frames.{number_at, numbers_at, bytes_of, has_header, framed}
 use Rattle.iq_root.specs.declared.root.Root.{Root}
 
 abbrev pub body_kind : ℕ
@@ -28,11 +28,6 @@ gate_place slot = 2 * slot + 1
 -- the number in the 8 bytes from a place on
 unfoldable pub long_at : List ℕ → ℕ → ℕ
 long_at block i = little_number 8 (drop i block)
-
--- so many numbers of 4 bytes each, from a place on
-abbrev pub numbers_at : List ℕ → ℕ → ℕ → List ℕ
-numbers_at block i zero = []
-numbers_at block i (suc n) = number_at block i ∷ numbers_at block (i + 4) n
 
 -- what a body says: generation, format, count of blocks, count of tables, and their descriptors
 abbrev pub root_of : List ℕ → Root

@@ -1,9 +1,9 @@
 //! The newest root of a store.
 ghost use Rattle.std.specs.Prelude.{◌≡◌, ◌+◌, ◌*◌, ◌<◌, ◌≤◌, ℕ, List, Some, length, take, IfOk, IfErr, IsTrue, true, nat_lt};
 ghost use Rattle.iq_outside.specs.Devices.{block_of};
-ghost use Rattle.iq_block_store.specs.Frames.{has_header, number_at};
+ghost use Rattle.iq_block_store.specs.Frames.{has_header, number_at, numbers_at};
 ghost use Rattle.iq_block_store.specs.Looks.{HasLooked};
-ghost use Rattle.iq_root.specs.Roots.{long_at, numbers_at, root_of, may_say, slot_root, newer, newest};
+ghost use Rattle.iq_root.specs.Roots.{long_at, root_of, may_say, slot_root, newer, newest};
 ghost use Rattle.iq_root.specs.Causes.{HasNoRoot, HasFault};
 
 use crate::pages::{BODY, GATE, long_at};

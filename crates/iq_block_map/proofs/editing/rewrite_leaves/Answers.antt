@@ -1,15 +1,17 @@
-use Rattle.std.proofs.Common.{rules, arith, refl, subst, length-take, length-set, ◌≡◌, ◌∙◌, ◌<◌, ◌≤◌, ◌*◌, ◌+◌, ◌++◌, ℕ, length, take, slice_index, true}
+use Rattle.std.proofs.Common.{rules, arith, refl, subst, length-take, length-set, ◌≡◌, ◌∙◌, ◌<◌, ◌≤◌, ◌*◌, ◌+◌, ◌++◌, ℕ, length, take, slice_index, true, ap, sym, List}
 use Rattle.std.specs.List.{All}
 use Rattle.std.proofs.lemmas.Result.{err_from_is_err_and}
 use Rattle.iq_block_map.specs.Maps.{is_address}
-use Rattle.iq_block_map.specs.Objects.{leaf_count}
+use Rattle.iq_block_map.specs.Objects.{leaf_count, used_in}
+use Rattle.iq_block_map.specs.Writing.{holds}
+use Rattle.iq_block_map.specs.Leaves.{leaf_at}
 use Rattle.iq_block_map.specs.Editing.{edited, piece, replaced_from}
 use Rattle.iq_block_map.proofs.EditLemmas.{piece_at, edited_start, length-edited, prefix_few}
-use Rattle.iq_block_map.proofs.PutLemmas.{put_none, put_then, looked_same, told_same}
+use Rattle.iq_block_map.proofs.PutLemmas.{put_none, put_then, looked_same, told_same, holds-append}
 use Rattle.iq_block_map.proofs.ReadLemmas.{below_count, edit_fault_on}
 use Rattle.iq_block_map.proofs.StepLemmas.{so_far_none}
 use Rattle.iq_block_map.proofs.NamedLemmas.{here_changes, all_drop, all_edited, listed_names, listed_count}
-use Rattle.iq_block_map.proofs.RewriteLemmas.{put_told, spare_after, leaf_done, leaves_done, untouched_at, untouched_more, bad_leaf}
+use Rattle.iq_block_map.proofs.RewriteLemmas.{put_told, spare_after, leaf_done, leaves_done, untouched_at, untouched_more, bad_leaf, lacks_leaf, old_leaf}
 use Rattle.iq_block_map.proofs.editing.rewrite_leaves.Goals as goal
 
 pub loop-k-init : goal.loop-k-init
@@ -47,7 +49,7 @@ returns-in_err-leaves-clause-put g c = put_then _ _ _ _ _ _ _ _ _ _ _ c.loop-k.i
 pub returns-in_err-leaves-clause-cause : goal.returns-in_err-leaves-clause-cause
 returns-in_err-leaves-clause-cause g c =
     let p = err_from_is_err_and c.from_residual.result c.from_residual.ensures.1 in
-    rw (p.1, p.2) (edit_fault_on _ _ c.in_err-leaves.field-0.0 _ _ _ _ _ _ _ c.loop-k.invariant.put.later (omega arith)
+    rw (p.1, p.2) (edit_fault_on _ _ _ _ c.in_err-leaves.field-0.0 _ _ _ _ _ _ c.loop-k.invariant.put.later (omega arith)
     (λ b all told.
     let there = c.loop-k.invariant.put.content all told in (
       there.0,
@@ -56,6 +58,24 @@ returns-in_err-leaves-clause-cause g c =
           bad_leaf all there.0 c.args.old c.args.before.now _ _ _ c.loop-k.k b _ c.used_in.result opened there.2 c.loop-k.invariant.put.left
           (omega (arith, c.requires.most)) c.used_in.ensures (untouched_at c.args.before.now c.loop-k.leaves c.loop-k.k c.loop-k.invariant.untouched) bad.0 bad.1,
     ))
+    (λ lacks all xs told opened.
+    let ys = edited xs c.args.changed.now c.args.added.now in
+    let mid = c.loop-k.invariant.put.content all told in
+    let lc = leaf_count c.args.old.pages in
+    let fits : lc ≤ 252 = omega (arith, c.requires.most) in
+    let size : length (take lc c.args.before.now) ≡ lc = length-take lc c.args.before.now ∙ omega (arith, fits, opened.may.size) in
+    let count : length xs ≡ c.args.old.pages = listed_count all c.args.old.pages (take lc c.args.before.now) xs opened.listed (omega (arith, size)) in
+    let pages : length ys ≡ c.args.old.pages + length c.args.added.now = length-edited xs c.args.changed.now c.args.added.now ∙ omega (arith, count) in
+    let within : c.loop-k.k < leaf_count (length ys) = omega (arith, c.loop-k-test.true, c.leaf_count-k-end.ensures, pages) in
+    let pieces = piece_at c.loop-k.k c.args.old.pages xs ys c.loop-k.to_change.now c.loop-k.to_add.now count c.loop-k.invariant.changes (c.loop-k.invariant.rest xs count) in
+    let pieced : piece c.loop-k.k ys ≡ replaced_from (252 * c.loop-k.k) (piece c.loop-k.k xs) c.split_at.result.0.now ++ c.split_at-in-loop-k.result.0.now
+    = rw (c.split_at.ensures.front, c.count_below.ensures, c.split_at-in-loop-k.ensures.front, c.min.ensures, c.used_in.ensures) pieces.here in
+    let so_far = c.loop-k.invariant.so_far all xs told opened mid.0 mid.1 in
+    let read = old_leaf all mid.0 c.args.old xs c.args.before.now _ _ c.loop-k.k opened count (omega (arith, c.requires.most)) so_far.size mid.2
+    (λ b none. (holds-append _ _ b (ap (λ (t : List ℕ). holds t b) (sym c.loop-k.invariant.put.left) ∙ none)).0) in
+    let here = ap (leaf_at mid.0 (used_in (length xs) c.loop-k.k)) (untouched_at c.args.before.now c.loop-k.leaves c.loop-k.k c.loop-k.invariant.untouched) ∙ read in
+    lacks_leaf all mid.0 xs ys c.args.before.now c.loop-k.leaves _ _ c.loop-k.k so_far lacks.0
+    (λ same. lacks.1 mid.0 (piece c.loop-k.k xs) mid.1 (rw (c.used_in.ensures, ← count) here) (sym pieced ∙ same)) within)
     c.in_err-leaves.ensures.cause)
 
 pub loop-k-preserved : goal.loop-k-preserved

@@ -2,7 +2,7 @@ use Rattle.std.proofs.Common.{arith, refl, sym, ap, subst, ◌≡◌, ◌∙◌,
 use Rattle.std.proofs.lemmas.List.{append-nil}
 use Rattle.iq_outside.specs.Devices.{block_of}
 use Rattle.iq_block_store.specs.Frames.{framed}
-use Rattle.iq_block_map.specs.Editing.{edited}
+use Rattle.iq_block_map.specs.Editing.{edited, maps_needed}
 use Rattle.iq_block_map.specs.Maps.{is_address, page_kind}
 use Rattle.iq_block_map.proofs.PutLemmas.{put_then, first_inside, told_same}
 use Rattle.iq_block_map.proofs.ReadLemmas.{edit_fault_on}
@@ -64,7 +64,7 @@ returns-clause-ok g c = ok_on _ _ c.remap.result
 
 pub returns-clause-cause : goal.returns-clause-cause
 returns-clause-cause g c = err_on _ _ c.remap.result
-    (λ e cause. edit_fault_on _ _ e _ _ _ _ _ _ _ c.put.ensures.put.later (omega arith)
+    (λ e cause. edit_fault_on _ _ _ _ e _ _ _ _ _ _ c.put.ensures.put.later (omega arith)
     (λ b all told.
     let mid = c.put.ensures.put.content all told in (
       mid.0,
@@ -78,6 +78,20 @@ returns-clause-cause g c = err_on _ _ c.remap.result
           } in
           bad_before all mid.0 c.args.object _ _ _ b free (bad (apart_after all mid.0 c.args.object _ _ _ free)),
     ))
+    (λ lacks all xs told apart is.
+    let mid = c.put.ensures.put.content all told in
+    let free : IsFree all mid.0 c.args.object (g.T.Taker.left c.args.space.now) _ (g.T.Taker.left c.put.new.space) = record {
+      few = c.requires.object.few;
+      same = mid.2;
+      split = c.put.ensures.put.left;
+      apart = apart;
+    } in
+    let place : c.args.n - 0 ≡ c.args.n = omega arith in
+    let shape : edited xs ((c.args.n, c.in_ok-at.at) ∷ []) [] ≡ slice_set xs c.args.n c.in_ok-at.at
+    = append-nil (slice_set xs (c.args.n - 0) c.in_ok-at.at) ∙ ap (λ (i : ℕ). slice_set xs i c.in_ok-at.at) place in
+    let short = lacks mid.0 xs mid.1 (apart_after all mid.0 c.args.object _ _ _ free) (addresses_same all mid.0 c.args.object _ _ _ xs free is) in
+    let first : slice_index (g.T.Taker.left c.args.space.now) 0 ≡ c.in_ok-at.at = ap (λ (t : List ℕ). slice_index t 0) c.in_ok-at.ensures.left in
+    rw first (omega (arith, short, ap length c.in_ok-at.ensures.left, ap (maps_needed xs) shape)))
     cause)
     c.remap.ensures.cause
 

@@ -1,6 +1,5 @@
 use Rattle.std.proofs.Common.{◌≡◌, ◌+◌, ◌-◌, ◌*◌, ◌++◌, length}
-use Rattle.iq_block_store.specs.Frames.{number_at}
-use Rattle.iq_root.specs.Roots.{numbers_at}
+use Rattle.iq_block_store.specs.Frames.{number_at, numbers_at}
 use Rattle.iq_root.proofs.newest.root_of.Given as goal
 
 abbrev pub invariant-loop-k : goal.invariant-loop-k
