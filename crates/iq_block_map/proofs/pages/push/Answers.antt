@@ -87,18 +87,18 @@ returns-clause-cause g c = err_on _ _ c.remap.result
 pub returns-clause-maps : goal.returns-clause-maps
 returns-clause-maps g c = ok_on _ _ c.remap.result
     (λ new made all xs told apart is now told_now.
-      let mid = c.put.ensures.put.content all told in
-      let free : IsFree all mid.0 c.args.object (g.T.Taker.left c.args.space.now) _ (g.T.Taker.left c.put.new.space) = record {
-        few = c.requires.object.few;
-        same = mid.2;
-        split = c.put.ensures.put.left;
-        apart = apart;
-      } in
-      record {
-        at = c.in_ok-at.at;
-        left = g.T.Taker.left c.put.new.space;
-        first = c.in_ok-at.ensures.left;
-        remapped = remapped_before all mid.0 now c.args.object new _ _ _ xs _ _ _ _ free
+    let mid = c.put.ensures.put.content all told in
+    let free : IsFree all mid.0 c.args.object (g.T.Taker.left c.args.space.now) _ (g.T.Taker.left c.put.new.space) = record {
+      few = c.requires.object.few;
+      same = mid.2;
+      split = c.put.ensures.put.left;
+      apart = apart;
+    } in
+    record {
+      at = c.in_ok-at.at;
+      left = g.T.Taker.left c.put.new.space;
+      first = c.in_ok-at.ensures.left;
+      remapped = remapped_before all mid.0 now c.args.object new _ _ _ xs _ _ _ _ free
           (made mid.0 xs mid.1 (apart_after all mid.0 c.args.object _ _ _ free) (addresses_same all mid.0 c.args.object _ _ _ xs free is) now told_now) refl;
-      })
+    })
     c.remap.ensures.ok

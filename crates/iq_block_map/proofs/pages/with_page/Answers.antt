@@ -98,21 +98,21 @@ returns-clause-cause g c = err_on _ _ c.remap.result
 pub returns-clause-maps : goal.returns-clause-maps
 returns-clause-maps g c = ok_on _ _ c.remap.result
     (λ new made all xs told apart is now told_now.
-      let mid = c.put.ensures.put.content all told in
-      let free : IsFree all mid.0 c.args.object (g.T.Taker.left c.args.space.now) _ (g.T.Taker.left c.put.new.space) = record {
-        few = c.requires.object.few;
-        same = mid.2;
-        split = c.put.ensures.put.left;
-        apart = apart;
-      } in
-      let place : c.args.n - 0 ≡ c.args.n = omega arith in
-      let shape : edited xs ((c.args.n, c.in_ok-at.at) ∷ []) [] ≡ slice_set xs c.args.n c.in_ok-at.at
-        = append-nil (slice_set xs (c.args.n - 0) c.in_ok-at.at) ∙ ap (λ (i : ℕ). slice_set xs i c.in_ok-at.at) place in
-      record {
-        at = c.in_ok-at.at;
-        left = g.T.Taker.left c.put.new.space;
-        first = c.in_ok-at.ensures.left;
-        remapped = remapped_before all mid.0 now c.args.object new _ _ _ xs _ _ _ _ free
+    let mid = c.put.ensures.put.content all told in
+    let free : IsFree all mid.0 c.args.object (g.T.Taker.left c.args.space.now) _ (g.T.Taker.left c.put.new.space) = record {
+      few = c.requires.object.few;
+      same = mid.2;
+      split = c.put.ensures.put.left;
+      apart = apart;
+    } in
+    let place : c.args.n - 0 ≡ c.args.n = omega arith in
+    let shape : edited xs ((c.args.n, c.in_ok-at.at) ∷ []) [] ≡ slice_set xs c.args.n c.in_ok-at.at
+    = append-nil (slice_set xs (c.args.n - 0) c.in_ok-at.at) ∙ ap (λ (i : ℕ). slice_set xs i c.in_ok-at.at) place in
+    record {
+      at = c.in_ok-at.at;
+      left = g.T.Taker.left c.put.new.space;
+      first = c.in_ok-at.ensures.left;
+      remapped = remapped_before all mid.0 now c.args.object new _ _ _ xs _ _ _ _ free
           (made mid.0 xs mid.1 (apart_after all mid.0 c.args.object _ _ _ free) (addresses_same all mid.0 c.args.object _ _ _ xs free is) now told_now) shape;
-      })
+    })
     c.remap.ensures.ok
