@@ -5,6 +5,8 @@ use Rattle.std.proofs.Common.{ap, sym, subst}
 use Rattle.std.proofs.Math.Seq.{drop-length}
 use Rattle.std.specs.List.{list_any}
 use Rattle.iq_outside.specs.Devices.{block_of}
+use Rattle.iq_outside.specs.Picks.{picked}
+use Rattle.iq_outside.specs.declared.pick.Pick.{Pick}
 use Rattle.iq_outside.specs.declared.recorded.Change.{Change}
 use Rattle.iq_outside.specs.declared.recorded.Change.TheVariants.{Wrote, Resized, Synced}
 
@@ -42,6 +44,14 @@ pub record IsTorn (blocks : List (List ℕ)) (waiting : List ℕ) (image : List 
 -- what a stop at a moment may leave
 abbrev pub recorded_image : Recording → ℕ → List (List ℕ) → Type 0
 recorded_image now t image = IsTorn (undone_all (drop t now.changes) now.blocks) (waiting (take t now.changes)) image
+
+-- What a pick leaves where a run stops, of changes the last of which comes first: those since the last sync are taken back, each
+-- block that was written to a pick of its bytes now and before.
+abbrev pub stopped : Pick → List Change → List (List ℕ) → List (List ℕ)
+stopped pick [] blocks = blocks
+stopped pick (Wrote at old ∷ changes) blocks = stopped pick changes (slice_set blocks at (picked pick (block_of blocks at) old))
+stopped pick (Resized before dropped ∷ changes) blocks = stopped pick changes blocks
+stopped pick (Synced ∷ changes) blocks = blocks
 
 -- one more change, which leads from the old blocks to the new
 pub record Adds (change : Change) (old new : Recording) : Type 0 where

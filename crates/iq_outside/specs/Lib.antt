@@ -1,7 +1,7 @@
 pub mod Calls
+pub mod Picks
 pub mod Changes
 pub mod Devices
-pub mod Picks
 pub mod Records
 pub mod Faults
 pub mod Streams

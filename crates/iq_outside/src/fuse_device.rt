@@ -1,9 +1,9 @@
 //! Blocks in memory that stop after a number of calls.
-ghost use Rattle.std.specs.Prelude.{◌≡◌, ◌<◌, ◌≤◌, ◌-◌, ◌^◌, [], ℕ, ◌==◌, List, Some, length, vec_len, is_err, IsErr, OnErr};
+ghost use Rattle.std.specs.Prelude.{◌≡◌, ◌<◌, ◌≤◌, ◌-◌, ◌^◌, [], ℕ, ◌==◌, List, Some, length, vec_len, is_err, IsErr, OnErr, reverse};
 ghost use Rattle.iq_outside.specs.Faults.{HasRisen};
 ghost use Rattle.iq_outside.specs.Devices.{HasCounted, HasRead, HasWritten, HasResized, HasSynced};
 ghost use Rattle.iq_outside.specs.Records.{fused_blocks, fused_faults, fused_tells, fused_clock, fused_image};
-ghost use Rattle.iq_outside.specs.Changes.{image_told};
+ghost use Rattle.iq_outside.specs.Changes.{image_told, stopped};
 
 use crate::recorded::Recorded;
 use crate::{Block, Device, Failed, Pick, SureDevice};
@@ -52,6 +52,7 @@ impl FuseDevice {
     /// memory.
     pub fn crash(self, pick: Pick) -> SureDevice
         ensures image { fused_image self (fused_clock self) result.blocks }
+        ensures left { result.blocks ≡ stopped pick (reverse self.kept.changes) self.kept.blocks }
         ensures fresh { result.faults ≡ 0 }
     {
         let FuseDevice {

@@ -1,8 +1,9 @@
 //! Blocks in memory with a record of each change.
-ghost use Rattle.std.specs.Prelude.{◌≡◌, ◌<◌, ◌^◌, ℕ, List, [], length, vec_len, slice_set, OnOk, OnErr};
+ghost use Rattle.std.specs.Prelude.{◌≡◌, ◌<◌, ◌^◌, ℕ, List, [], length, vec_len, slice_set, reverse, OnOk, OnErr};
 ghost use Rattle.iq_outside.specs.Devices.{block_of, resized, SameBut};
 ghost use Rattle.iq_outside.specs.declared.recorded.Change.TheVariants.{Wrote, Resized, Synced};
-ghost use Rattle.iq_outside.specs.Changes.{Adds, IsTorn, waiting};
+ghost use Rattle.iq_outside.specs.Changes.{Adds, IsTorn, waiting, stopped};
+ghost use Rattle.iq_outside.specs.Picks.{picked};
 
 use crate::{Block, Pick};
 use std::alloc::AllocError;
@@ -131,6 +132,7 @@ impl Recorded {
     /// The blocks as a stop leaves them: of each that was written since the last sync, a pick of its old and new bytes.
     pub fn torn(self, pick: Pick) -> Vec<Block>
         ensures image { IsTorn self.blocks (waiting self.changes) result.items }
+        ensures left { result.items ≡ stopped pick (reverse self.changes) self.blocks }
         ensures few { vec_len result < 2 ^ 32 }
     {
         let Recorded {
@@ -150,7 +152,8 @@ impl Recorded {
 
 /// Puts a pick of the old and the new bytes in a block's place, if there is such a place.
 fn put_back(blocks: &mut [Block], at: u32, pick: Pick, old: &Block)
-    ensures { SameBut at blocks.old blocks.new }
+    ensures others { SameBut at blocks.old blocks.new }
+    ensures picked { blocks.new ≡ slice_set blocks.old at (picked pick (block_of blocks.old at) old.now) }
 {
     let at = at as usize;
     if at < blocks.len() {
