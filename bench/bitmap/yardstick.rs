@@ -1,30 +1,15 @@
 //! The yardstick: plain loops over `u64` words, for the same bitmaps and as many rounds as the crate `bitmap_bench`, and
 //! copies of pages of 1,008 bytes. Each line is a call's name and the processor time of one round in nanoseconds.
+#[path = "../clock.rs"]
+mod clock;
+
+use clock::thread_cpu_time;
 use std::hint::black_box;
 
 const WORDS: usize = 2_097_152 / 64;
 const ROUNDS: u64 = 200;
 const PAGE: usize = 1008;
 const PAGES: usize = (WORDS * 8).div_ceil(PAGE);
-
-#[repr(C)]
-struct Timespec {
-    seconds: i64,
-    nanoseconds: i64,
-}
-
-const CLOCK_THREAD_CPUTIME_ID: i32 = 3;
-
-unsafe extern "C" {
-    fn clock_gettime(clock: i32, time: *mut Timespec) -> i32;
-}
-
-fn thread_cpu_time() -> u64 {
-    let mut time = Timespec { seconds: 0, nanoseconds: 0 };
-    // SAFETY: `time` is a valid place for a timespec.
-    assert_eq!(unsafe { clock_gettime(CLOCK_THREAD_CPUTIME_ID, &mut time) }, 0);
-    time.seconds as u64 * 1_000_000_000 + time.nanoseconds as u64
-}
 
 fn spaced(distance: usize) -> Vec<u64> {
     let mut words = vec![0u64; WORDS];

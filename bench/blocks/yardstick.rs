@@ -1,29 +1,14 @@
 //! The yardstick: the same blocks by plain `pwrite` and `pread`, with as many rounds as the crate `block_bench`. Each line is a
 //! call's name and the processor time of all blocks in nanoseconds, the system's part included.
+#[path = "../clock.rs"]
+mod clock;
+
+use clock::thread_cpu_time;
 use std::fs::OpenOptions;
 use std::io;
 use std::os::unix::fs::FileExt;
 
 const ROUNDS: u32 = 5;
-
-#[repr(C)]
-struct Timespec {
-    seconds: i64,
-    nanoseconds: i64,
-}
-
-const CLOCK_THREAD_CPUTIME_ID: i32 = 3;
-
-unsafe extern "C" {
-    fn clock_gettime(clock: i32, time: *mut Timespec) -> i32;
-}
-
-fn thread_cpu_time() -> u64 {
-    let mut time = Timespec { seconds: 0, nanoseconds: 0 };
-    // SAFETY: `time` is a valid place for a timespec.
-    assert_eq!(unsafe { clock_gettime(CLOCK_THREAD_CPUTIME_ID, &mut time) }, 0);
-    time.seconds as u64 * 1_000_000_000 + time.nanoseconds as u64
-}
 
 /// A page's block: its header, and bytes of which the first is the lowest of the block's number.
 fn write_blocks(file: &std::fs::File, blocks: u32, block: &mut [u8; 1024]) -> io::Result<()> {
