@@ -4,7 +4,7 @@ use Rattle.std.specs.List.{slice_get}
 use Rattle.iq_base.specs.declared.names.Name.{Name}
 use Rattle.iq_base.specs.declared.refusals.Refusal.{Refusal}
 use Rattle.iq_base.specs.declared.refusals.Refusal.TheVariants as refusals
-use Rattle.iq_base.specs.declared.answers.Answer.TheVariants as answers
+use Rattle.iq_model.specs.declared.answers.Answer.TheVariants as answers
 use Rattle.iq_ast.specs.declared.statements.Statement.{Statement}
 use Rattle.iq_ast.specs.declared.statements.Statement.TheVariants as statements
 use Rattle.iq_ast.specs.declared.statements.Write.{Write}

@@ -8,8 +8,8 @@ use Rattle.iq_base.specs.declared.values.Value.TheVariants as values
 use Rattle.iq_base.specs.declared.values.Kind.{Kind}
 use Rattle.iq_base.specs.declared.values.Kind.TheVariants as kinds
 use Rattle.iq_base.specs.declared.schemas.Column.{Column}
-use Rattle.iq_base.specs.declared.answers.Out.{Out}
-use Rattle.iq_base.specs.declared.answers.Out.TheVariants as outs
+use Rattle.iq_model.specs.declared.answers.Out.{Out}
+use Rattle.iq_model.specs.declared.answers.Out.TheVariants as outs
 use Rattle.iq_base.specs.declared.refusals.Refusal.{Refusal}
 use Rattle.iq_base.specs.declared.refusals.Refusal.TheVariants as refusals
 use Rattle.iq_base.specs.declared.refusals.FieldCause.{FieldCause}

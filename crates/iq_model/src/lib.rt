@@ -5,6 +5,7 @@
 //! and `iq_history`; above stands every crate that promises what a run means.
 #![tactic(auto)]
 
+mod answers;
 mod checks;
 mod locking;
 mod projection;
@@ -13,6 +14,7 @@ mod scripts;
 #[cfg(test)]
 mod tests;
 
+pub use answers::{Answer, Freed, NodeVersion, Out, Sent, Versions};
 pub use checks::{column_place, first_bad_row, first_no_column};
 pub use locking::names_of;
 pub use projection::{out_of, projected_row};

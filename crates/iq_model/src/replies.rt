@@ -1,5 +1,6 @@
 //! What a line is answered.
-use iq_base::{Answer, Census, Freed, Name, Refusal, Sent, Versions};
+use crate::answers::{Answer, Freed, Sent, Versions};
+use iq_base::{Census, Name, Refusal};
 
 /// The answer of one line. `commit` is the number under which an autocommit line is committed.
 #[derive(Debug, Drop)]

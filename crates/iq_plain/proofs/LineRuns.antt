@@ -7,7 +7,7 @@ use Rattle.iq_base.specs.declared.names.Name.{Name}
 use Rattle.iq_base.specs.declared.nodes.NodeSpec.{NodeSpec}
 use Rattle.iq_base.specs.declared.nodes.SessionSpec.{SessionSpec}
 use Rattle.iq_base.specs.declared.refusals.Refusal.{Refusal}
-use Rattle.iq_base.specs.declared.answers.Answer.TheVariants as answers
+use Rattle.iq_model.specs.declared.answers.Answer.TheVariants as answers
 use Rattle.iq_ast.specs.declared.statements.Statement.{Statement}
 use Rattle.iq_ast.specs.declared.statements.Statement.TheVariants as statements
 use Rattle.iq_ast.specs.declared.statements.Select.{Select}

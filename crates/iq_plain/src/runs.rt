@@ -12,9 +12,9 @@ use crate::effects::effect;
 use crate::refusals::{statement_refusal, write_room_refusal};
 use crate::tables::PlainTables;
 use iq_ast::{Select, Statement, Write};
-use iq_base::{Answer, Listed, NoMemory, Refusal};
+use iq_base::{Listed, NoMemory, Refusal};
 use iq_history::Entry;
-use iq_model::{Deed, Line, Reply, Said, Script, names_of};
+use iq_model::{Answer, Deed, Line, Reply, Said, Script, names_of};
 use std::alloc::Global;
 
 /// What a script is answered over plain tables, and the history whose replies these are.

@@ -9,7 +9,7 @@ use Rattle.std.proofs.lemmas.Bool.Decides.{nat_tests}
 use Rattle.iq_base.specs.declared.names.Name.{Name}
 use Rattle.iq_base.specs.declared.values.Value.{Value}
 use Rattle.iq_base.specs.declared.schemas.Column.{Column}
-use Rattle.iq_base.specs.declared.answers.Out.{Out}
+use Rattle.iq_model.specs.declared.answers.Out.{Out}
 use Rattle.iq_base.specs.declared.refusals.Refusal.{Refusal}
 use Rattle.iq_base.specs.declared.refusals.Refusal.TheVariants as refusals
 use Rattle.iq_base.specs.Limits.{row_limit}

@@ -11,9 +11,9 @@ use Rattle.iq_base.specs.declared.refusals.Refusal.TheVariants as refusals
 use Rattle.iq_ast.specs.declared.statements.Item.{Item}
 use Rattle.iq_ast.specs.declared.statements.Item.TheVariants as items
 use Rattle.iq_model.specs.Statements.{first_refusal, insert_checks, room_check, column_place}
-use Rattle.iq_base.specs.declared.memory_pages.MemoryPages.{MemoryPages}
-use Rattle.iq_base.specs.MemoryView.{memory_pages}
-use Rattle.iq_base.specs.Pages.{Pages}
+use Rattle.iq_pages.specs.declared.memory_pages.MemoryPages.{MemoryPages}
+use Rattle.iq_pages.specs.MemoryView.{memory_pages}
+use Rattle.iq_pages.specs.Pages.{Pages}
 use Rattle.iq_table.specs.Table.{TableStands}
 use Rattle.iq_plex.specs.declared.stored.Stored.{Stored}
 use Rattle.iq_model.specs.Tables.{Table, Database, content, live_slot, same_name}

@@ -10,8 +10,8 @@ ghost use Rattle.iq_plex.specs.Stored.{StandsFor, StandFor, place_in, AllPlain};
 use crate::stored::Stored;
 use crate::tables::place_of;
 use iq_ast::{Item, Select};
-use iq_base::{Column, Listed, NoMemory, Out, Refusal, Row, Value};
-use iq_model::{column_place, first_no_column, out_of};
+use iq_base::{Column, Listed, NoMemory, Refusal, Row, Value};
+use iq_model::{Out, column_place, first_no_column, out_of};
 use std::alloc::Global;
 
 /// The rows of a query, or what refuses it. The tables stand as they stood.

@@ -11,8 +11,9 @@ ghost use Rattle.iq_plex.specs.Stored.{StandsFor, StandFor, IsRowsCause, AreGran
 use crate::stored::Stored;
 use crate::tables::{before, check_create, place_of};
 use iq_ast::Write;
-use iq_base::{Column, Listed, MemoryPages, Name, NoMemory, Refusal, Row, Schema, row_limit};
+use iq_base::{Column, Listed, Name, NoMemory, Refusal, Row, Schema, row_limit};
 use iq_model::first_bad_row;
+use iq_pages::MemoryPages;
 use iq_table::Table as PagedTable;
 use std::alloc::Global;
 

@@ -1,6 +1,6 @@
 //! One line of a script.
 ghost use Rattle.std.specs.Prelude.{◌≡◌, ◌≢◌, [], Some, None};
-ghost use Rattle.iq_base.specs.declared.answers.Answer.TheVariants as answers;
+ghost use Rattle.iq_model.specs.declared.answers.Answer.TheVariants as answers;
 ghost use Rattle.iq_ast.specs.declared.statements.Statement.TheVariants as statements;
 ghost use Rattle.iq_model.specs.Scripts.{HasFewTuples};
 ghost use Rattle.iq_model.specs.State.{begun, locked, done};
@@ -10,8 +10,8 @@ ghost use Rattle.iq_render.specs.Placed.{IsPlacedSaid};
 ghost use Rattle.iq_run.specs.Lines.{IsNextLine, Runs, HoldsNone, MayHold, HoldsNames, EndsLine};
 
 use iq_ast::{Select, Write};
-use iq_base::{Answer, Refusal};
-use iq_model::{Reply, Said, names_of};
+use iq_base::Refusal;
+use iq_model::{Answer, Reply, Said, names_of};
 use iq_plex::Plex;
 use std::alloc::Global;
 

@@ -1,7 +1,7 @@
 //! Replies and their rows.
 use super::{CENSUS, name, says};
-use iq_base::{Answer, Freed, Letters, Listed, NodeVersion, Out, Refusal, Sent, Text, Versions};
-use iq_model::Said;
+use iq_base::{Letters, Listed, Refusal, Text};
+use iq_model::{Answer, Freed, NodeVersion, Out, Said, Sent, Versions};
 use std::test::Fail;
 
 #[test]

@@ -5,9 +5,9 @@ ghost use Rattle.iq_render.specs.Placed.{ArePlacedReplies, IsPlacedSaid};
 
 use super::name;
 use crate::{history_part, replies_part, summary, transcript};
-use iq_base::{Answer, Census, Listed, Locks, NoMemory, Out};
+use iq_base::{Census, Listed, Locks, NoMemory};
 use iq_history::{Entry, History};
-use iq_model::{Reply, Said};
+use iq_model::{Answer, Out, Reply, Said};
 use std::process::Abort;
 use std::test::Fail;
 

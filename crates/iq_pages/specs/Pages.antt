@@ -1,44 +1,43 @@
 -- What contracts see of a source of pages, and what each of its calls does.
-use Rattle.std.specs.Prelude.{◌≡◌, ◌≢◌, ◌≤◌, ℕ, ◌+◌, ◌-◌, ◌^◌, min, List, [], ◌∷◌, ◌++◌, Option, Some, None, Result, slice_get, slice_set, IfSome, IfErr, OnOk, OnErr, ⊤}
+use Rattle.std.specs.Prelude.{◌≡◌, ◌≢◌, ◌≤◌, ℕ, ◌+◌, List, [], ◌∷◌, ◌++◌, Option, Some, None, Result, slice_get, slice_set, IfSome, IfErr, OnOk, OnErr, ⊤}
 use Rattle.std.specs.Option.{option_map}
-use Rattle.iq_base.specs.declared.page_faults.PageFault.{PageFault}
-use Rattle.iq_base.specs.declared.page_faults.PageFault.TheVariants.{Refused, BadPage, NoMemory}
+use Rattle.iq_outside.specs.Faults.{RoseWithin}
+use Rattle.iq_pages.specs.declared.page_faults.PageFault.{PageFault}
+use Rattle.iq_pages.specs.declared.page_faults.PageFault.TheVariants.{Failed, BadPage, NoMemory}
 
 -- an object is the list of its pages, and a page the list of its bytes
 abbrev pub Pages : Type 0
 Pages = List (List ℕ)
 
--- how many pages each object has; the pages of each object, how often a page was read and how often the store failed, the
--- first two of these where they are told
+-- how many pages each object has; the pages of each object, how many were read and written, and how often the store failed, the
+-- first three of these where they are told
 pub record Seen : Type 0 where
   pub counts : ℕ → ℕ
   pub told : ℕ → Option Pages
   pub reads : Option ℕ
+  pub writes : Option ℕ
   pub faults : ℕ
 
--- what is seen of a value, by the four meanings of its type
-abbrev pub seen : {S : Type 0} → (S → ℕ → ℕ) → (S → ℕ → Option Pages) → (S → Option ℕ) → (S → ℕ) → S → Seen
-seen counts told reads faults s = record { counts = counts s; told = told s; reads = reads s; faults = faults s }
+-- what is seen of a value, by the five meanings of its type
+abbrev pub seen : {S : Type 0} → (S → ℕ → ℕ) → (S → ℕ → Option Pages) → (S → Option ℕ) → (S → Option ℕ) → (S → ℕ) → S → Seen
+seen counts told reads writes faults s =
+    record { counts = counts s; told = told s; reads = reads s; writes = writes s; faults = faults s }
 
--- a count of faults has risen; one that stands at the last value of a u64 counts as risen
-abbrev pub HasRisen : ℕ → ℕ → Type 0
-HasRisen before now = min (before + 1) (2 ^ 64 - 1) ≤ now
-
--- so many more pages were read, where that is told now; what isn't told is not told again
-abbrev pub ReadsMore : ℕ → Option ℕ → Option ℕ → Type 0
-ReadsMore n before None = ⊤
-ReadsMore n None (Some now) = ⊥
-ReadsMore n (Some before) (Some now) = now ≡ before + n
+-- so many more were counted, where that is told now; what isn't told is not told again
+abbrev pub CountsMore : ℕ → Option ℕ → Option ℕ → Type 0
+CountsMore n before None = ⊤
+CountsMore n None (Some now) = ⊥
+CountsMore n (Some before) (Some now) = now ≡ before + n
 
 -- why a call on an object may fail: the store failed, or the pages of the object, which the fault names, aren't told
 abbrev pub HasCause : ℕ → Seen → Seen → PageFault → Type 0
-HasCause object before after (Refused refusal) = HasRisen before.faults after.faults
+HasCause object before after (Failed x y) = RoseWithin before.faults x y after.faults
 HasCause object before after (BadPage named page) = (named ≡ object) × (before.told object ≡ None)
 HasCause object before after NoMemory = ⊤
 
 -- a fault of a page names that page
 abbrev pub NamesPage : ℕ → PageFault → Type 0
-NamesPage n (Refused refusal) = ⊤
+NamesPage n (Failed x y) = ⊤
 NamesPage n (BadPage object page) = page ≡ n
 NamesPage n NoMemory = ⊤
 
@@ -48,8 +47,8 @@ IsPageOf told n page = IfSome told (λ pages. slice_get pages n ≡ Some page)
 
 -- every object has the pages that it had
 pub record KeepsObjects (before after : Seen) : Type 0 where
-  pub told : after.told ≡ before.told
-  pub counts : after.counts ≡ before.counts
+  pub told : (object : ℕ) → after.told object ≡ before.told object
+  pub counts : (object : ℕ) → after.counts object ≡ before.counts object
 
 -- one object has other pages, so many of them, and every other object those that it had
 pub record ChangesObject (object : ℕ) (change : Pages → Pages) (count : ℕ) (before after : Seen) : Type 0 where
@@ -58,11 +57,14 @@ pub record ChangesObject (object : ℕ) (change : Pages → Pages) (count : ℕ)
   pub told_others : (other : ℕ) → other ≢ object → after.told other ≡ before.told other
   pub counts_others : (other : ℕ) → other ≢ object → after.counts other ≡ before.counts other
 
--- a call that changes one object: at Ok it is changed, at Err every object is as before
-pub record Writes (object : ℕ) (change : Pages → Pages) (count : ℕ) (result : Result (Unit {0}) PageFault) (before after : Seen) : Type 0 where
+-- a call that changes one object and writes so many pages: at Ok it is changed, at Err every object is as before and no page is
+-- counted as written
+pub record Writes (object : ℕ) (change : Pages → Pages) (count pages : ℕ) (result : Result (Unit {0}) PageFault) (before after : Seen) : Type 0 where
   pub done : OnOk result (ChangesObject object change count before after)
   pub kept : OnErr result (KeepsObjects before after)
   pub reads : after.reads ≡ before.reads
+  pub writes : OnOk result (CountsMore pages before.writes after.writes)
+  pub unwritten : OnErr result (after.writes ≡ before.writes)
   pub later : before.faults ≤ after.faults
   pub cause : IfErr result (HasCause object before after)
 
@@ -70,7 +72,8 @@ pub record Writes (object : ℕ) (change : Pages → Pages) (count : ℕ) (resul
 pub record ReadsPage (object n : ℕ) (into : List ℕ) (result : Result (Unit {0}) PageFault) (before after : Seen) : Type 0 where
   pub done : OnOk result (IsPageOf (before.told object) n into)
   pub kept : KeepsObjects before after
-  pub reads : ReadsMore 1 before.reads after.reads
+  pub reads : CountsMore 1 before.reads after.reads
+  pub writes : after.writes ≡ before.writes
   pub later : before.faults ≤ after.faults
   pub cause : IfErr result (HasCause object before after)
   pub names : IfErr result (NamesPage n)
@@ -78,13 +81,13 @@ pub record ReadsPage (object n : ℕ) (into : List ℕ) (result : Result (Unit {
 -- page n of an object is written anew
 abbrev pub SetsPage : ℕ → ℕ → List ℕ → Result (Unit {0}) PageFault → Seen → Seen → Type 0
 SetsPage object n page result before after =
-    Writes object (λ (pages : Pages). slice_set pages n page) (before.counts object) result before after × IfErr result (NamesPage n)
+    Writes object (λ (pages : Pages). slice_set pages n page) (before.counts object) 1 result before after × IfErr result (NamesPage n)
 
 -- a page is put at the end of an object
 abbrev pub PushesPage : ℕ → List ℕ → Result (Unit {0}) PageFault → Seen → Seen → Type 0
 PushesPage object page result before after =
-    Writes object (λ (pages : Pages). pages ++ page ∷ []) (before.counts object + 1) result before after
+    Writes object (λ (pages : Pages). pages ++ page ∷ []) (before.counts object + 1) 1 result before after
 
 -- an object is made, or made anew, without pages
 abbrev pub MakesObject : ℕ → Result (Unit {0}) PageFault → Seen → Seen → Type 0
-MakesObject object result before after = Writes object (λ (pages : Pages). []) 0 result before after
+MakesObject object result before after = Writes object (λ (pages : Pages). []) 0 0 result before after

@@ -1,7 +1,7 @@
 use Rattle.std.proofs.Common.{◌≡◌, arith, eq-eqb, slice_index_or}
 use Rattle.std.proofs.lemmas.Grind.{common_steps}
-use Rattle.iq_base.proofs.PagesInMemory.{place_is, missing_is}
-use Rattle.iq_base.proofs.memory_objects.place_of.Goals as goal
+use Rattle.iq_pages.proofs.PagesInMemory.{place_is, missing_is}
+use Rattle.iq_pages.proofs.memory_objects.place_of.Goals as goal
 
 pub returns-then-object-number-clause-found : goal.returns-then-object-number-clause-found
 returns-then-object-number-clause-found c =

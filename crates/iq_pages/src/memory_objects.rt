@@ -1,9 +1,8 @@
 //! Objects of pages in memory: a short list of numbers, each with its pages.
 ghost use Rattle.std.specs.Prelude.{◌≡◌, ◌<◌, [], ◌∷◌, ◌++◌, length, slice_get, slice_set, IfSome, IfNone, OnOk, OnErr, Some};
-ghost use Rattle.iq_base.specs.MemoryPages.{pages_in, IsPlaceOf, IsMissing, ChangesPages};
+ghost use Rattle.iq_pages.specs.MemoryPages.{pages_in, IsPlaceOf, IsMissing, ChangesPages};
 
-use crate::memory::NoMemory;
-use crate::pages::Page;
+use iq_base::{NoMemory, Page};
 use std::alloc::Global;
 
 /// An object that was made: its number and its pages.

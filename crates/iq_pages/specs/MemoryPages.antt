@@ -1,11 +1,10 @@
 -- Pages that memory keeps, and which calls on them fail.
 use Rattle.std.specs.Prelude.{◌≡◌, ◌<◌, ℕ, ◌+◌, ◌-◌, ◌^◌, min, ◌≢◌, Bool, length, slice_index_or, slice_set, List, [], ◌∷◌, ◌++◌, Option, Some, None, nat_eq, nat_lt, if◌then◌else◌, Result, false, IsTrue, IsErrOf, IfErr}
-use Rattle.std.specs.List.{list_any}
-use Rattle.iq_base.specs.declared.memory_objects.Object.{Object}
-use Rattle.iq_base.specs.declared.page_faults.PageFault.{PageFault}
-use Rattle.iq_base.specs.declared.page_faults.PageFault.TheVariants.{Refused, NoMemory}
-use Rattle.iq_base.specs.declared.refusals.Refusal.TheVariants.{StoreFault}
-use Rattle.iq_base.specs.Pages.{Pages}
+use Rattle.iq_pages.specs.declared.memory_objects.Object.{Object}
+use Rattle.iq_pages.specs.declared.page_faults.PageFault.{PageFault}
+use Rattle.iq_pages.specs.declared.page_faults.PageFault.TheVariants.{Failed, NoMemory}
+use Rattle.iq_outside.specs.Calls.{Plan, is_listed, after_call}
+use Rattle.iq_pages.specs.Pages.{Pages}
 
 -- the pages of the object of that number; an object that was never made has none
 abbrev pub pages_in : List Object → ℕ → Pages
@@ -29,30 +28,12 @@ pub record IsMissing (objects : List Object) (number : ℕ) : Type 0 where
   pub none : pages_in objects number ≡ []
   pub added : (object : Object) → object.number ≡ number → ChangesPages number object.pages.items objects (objects ++ object ∷ [])
 
--- the calls so far, the numbers, from 1, of those that are to fail, and how many failed
-pub record Plan : Type 0 where
-  pub calls : ℕ
-  pub fails : List ℕ
-  pub faults : ℕ
-
--- the next number of a u64, or its last
-abbrev pub next_of : ℕ → ℕ
-next_of n = min (n + 1) (2 ^ 64 - 1)
-
--- whether the next call is listed
-abbrev pub is_listed : Plan → Bool
-is_listed plan = list_any (λ n. nat_eq n (next_of plan.calls)) plan.fails
-
--- the plan after one more call
-abbrev pub after_call : Plan → Plan
-after_call plan = record { calls = next_of plan.calls; fails = plan.fails; faults = if is_listed plan then next_of plan.faults else plan.faults }
-
--- a call is counted, is refused with a store fault where it is listed, and elsewhere fails only for want of memory
+-- a call is counted, fails where it is listed, and elsewhere only for want of memory
 pub record FollowsPlan (result : Result (Unit {0}) PageFault) (before after : Plan) : Type 0 where
   pub counted : after ≡ after_call before
-  pub listed : IsTrue (is_listed before) → IsErrOf result (Refused (StoreFault before.faults after.faults))
+  pub listed : IsTrue (is_listed before) → IsErrOf result (Failed before.faults after.faults)
   pub others : is_listed before ≡ false → IfErr result (λ fault. fault ≡ NoMemory)
 
--- how often pages were read, as long as a u64 can count it
-abbrev pub told_reads : ℕ → Option ℕ
-told_reads reads = if nat_lt reads (2 ^ 64 - 1) then Some reads else None
+-- how many pages were read or written, as long as a u64 can count it
+abbrev pub told_count : ℕ → Option ℕ
+told_count count = if nat_lt count (2 ^ 64 - 1) then Some count else None

@@ -1,8 +1,8 @@
 -- The pages of an object in a list of objects, by the place of the first object of its number.
 use Rattle.std.proofs.Common.{◌≡◌, ◌≢◌, ℕ, zero, suc, ◌<◌, true, false, List, [], ◌∷◌, ◌++◌, length, slice_index_or, slice_set, refl, arith, eq-eqb, eqb-true, nat_eq, if◌then◌else◌}
 use Rattle.std.proofs.lemmas.Bool.Decides.{nat_tests}
-use Rattle.iq_base.specs.declared.memory_objects.Object.{Object}
-use Rattle.iq_base.specs.MemoryPages.{pages_in, IsPlaceOf, IsMissing}
+use Rattle.iq_pages.specs.declared.memory_objects.Object.{Object}
+use Rattle.iq_pages.specs.MemoryPages.{pages_in, IsPlaceOf, IsMissing}
 
 -- a number is not another than its own
 not_at : (n number other : ℕ) → nat_eq n number ≡ true → other ≢ number → nat_eq n other ≡ false
