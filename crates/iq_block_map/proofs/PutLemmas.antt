@@ -3,7 +3,9 @@ use Rattle.std.specs.Prelude.{◌≡◌, ℕ, ◌-◌, ◌<◌, ◌≤◌, Bool,
 use Rattle.std.proofs.Common.{refl, sym, ap, ◌∙◌, inl, inr, arith, append_assoc, length-append}
 use Rattle.std.proofs.lemmas.List.{take_at}
 use Rattle.std.proofs.lemmas.Bool.{eq-eqb, cases_lt, ltb-true, and_parts}
-use Rattle.iq_outside.specs.Devices.{SameBut, KeepsPast, HasWritten, Stored}
+use Rattle.iq_outside.specs.declared.device.Device.{Ghosts}
+use Rattle.iq_outside.specs.Devices.{SameBut, Stored}
+use Rattle.iq_outside.specs.DeviceCalls.{KeepsPast, HasWritten}
 use Rattle.iq_outside.proofs.ImageLemmas.{SameBut-set}
 use Rattle.iq_block_store.specs.Looks.{HasLooked}
 use Rattle.iq_block_map.specs.Maps.{is_address}
@@ -52,10 +54,9 @@ beside_of_but at a b same = record {
 }
 
 -- no block was taken, and the device was only looked at
-pub put_none : {D : Type 0} (blocks : D → Option (List (List ℕ))) (faults : D → ℕ) (tells : D → Bool) (clock : D → ℕ)
-    (image : D → ℕ → List (List ℕ) → Type 0) (left : List ℕ) (old new : D) → HasLooked blocks faults tells clock image old new
-    → HasPut blocks faults tells clock image left left old new
-put_none blocks faults tells clock image left old new looked =
+pub put_none : {D : Type 0} (g : Ghosts D) (left : List ℕ) (old new : D) → HasLooked g old new
+    → HasPut g left left old new
+put_none g left old new looked =
     let none : taken_of left left ≡ [] = taken_front left [] left refl in
     record {
       left = sym (ap (λ (t : List ℕ). t ++ left) none);
@@ -66,23 +67,25 @@ put_none blocks faults tells clock image left old new looked =
       since = λ t b since until now. (b, looked.since t b since until now, rw none (SameBeside-refl [] b));
     }
 
-past_then : {D : Type 0} (tells : D → Bool) (clock : D → ℕ) (image : D → ℕ → List (List ℕ) → Type 0) (old between new : D)
-    → KeepsPast tells clock image old between → KeepsPast tells clock image between new → KeepsPast tells clock image old new
-past_then tells clock image old between new first second = record {
+past_then : {D : Type 0} (g : Ghosts D) (old between new : D)
+    → KeepsPast g old between → KeepsPast g between new → KeepsPast g old new
+past_then g old between new first second = record {
   same = second.same ∙ first.same;
   later = omega (arith, first.later, second.later);
   keeps = λ t b early left. second.keeps t b (omega (arith, early, first.later)) (first.keeps t b early left);
   no_more = λ t b early left. first.no_more t b early (second.no_more t b (omega (arith, early, first.later)) left);
+  keeps_whole = λ t i x early here. second.keeps_whole t i x (omega (arith, early, first.later)) (first.keeps_whole t i x early here);
+  whole_before = λ t i x early here. first.whole_before t i x early (second.whole_before t i x (omega (arith, early, first.later)) here);
 }
 
-since_then : {D : Type 0} (clock : D → ℕ) (image : D → ℕ → List (List ℕ) → Type 0) (tells : D → Bool) (xs ys : List ℕ) (old between new : D)
-    → KeepsPast tells clock image old between → KeepsPast tells clock image between new
-    → AddsBeside xs clock image old between → AddsBeside ys clock image between new → AddsBeside (xs ++ ys) clock image old new
-since_then clock image tells xs ys old between new past_first past_second first second t b since until left =
-    elim (cases_lt (clock between) t) [
+since_then : {D : Type 0} (g : Ghosts D) (xs ys : List ℕ) (old between new : D)
+    → KeepsPast g old between → KeepsPast g between new
+    → AddsBeside g xs old between → AddsBeside g ys between new → AddsBeside g (xs ++ ys) old new
+since_then g xs ys old between new past_first past_second first second t b since until left =
+    elim (cases_lt (g.clock between) t) [
       | inl after ↦
           (let mid = second t b (omega (arith, after)) until left in
-          let start = first (clock between) mid.0 past_first.later (omega arith) mid.1 in
+          let start = first (g.clock between) mid.0 past_first.later (omega arith) mid.1 in
           (start.0, start.1, beside_more xs ys start.0 mid.0 b start.2 mid.2))
       | inr early ↦
           (let start = first t b since early (past_second.no_more t b early left) in
@@ -90,11 +93,10 @@ since_then clock image tells xs ys old between new past_first past_second first 
     ]
 
 -- one call after another
-pub put_then : {D : Type 0} (blocks : D → Option (List (List ℕ))) (faults : D → ℕ) (tells : D → Bool) (clock : D → ℕ)
-    (image : D → ℕ → List (List ℕ) → Type 0) (before mid after : List ℕ) (old between new : D)
-    → HasPut blocks faults tells clock image before mid old between → HasPut blocks faults tells clock image mid after between new
-    → HasPut blocks faults tells clock image before after old new
-put_then blocks faults tells clock image before mid after old between new first second =
+pub put_then : {D : Type 0} (g : Ghosts D) (before mid after : List ℕ) (old between new : D)
+    → HasPut g before mid old between → HasPut g mid after between new
+    → HasPut g before after old new
+put_then g before mid after old between new first second =
     let xs = taken_of before mid in
     let ys = taken_of mid after in
     let split : before ≡ (xs ++ ys) ++ after
@@ -108,19 +110,18 @@ put_then blocks faults tells clock image before mid after old between new first 
           (two.0, two.1, rw both (beside_more xs ys all one.0 two.0 one.2 two.2));
       untold = λ never. second.untold (first.untold never);
       later = omega (arith, first.later, second.later);
-      past = past_then tells clock image old between new first.past second.past;
-      since = rw both (since_then clock image tells xs ys old between new first.past second.past first.since second.since);
+      past = past_then g old between new first.past second.past;
+      since = rw both (since_then g xs ys old between new first.past second.past first.since second.since);
     }
 
 -- a block was taken and written, well or not
-pub put_one : {D U E : Type 0} (blocks : D → Option (List (List ℕ))) (faults : D → ℕ) (tells : D → Bool) (clock : D → ℕ)
-    (image : D → ℕ → List (List ℕ) → Type 0) (at : ℕ) (block before after : List ℕ) (result : Result U E) (old new : D) → before ≡ at ∷ after
-    → HasWritten blocks faults tells clock image at block result old new → HasPut blocks faults tells clock image before after old new
-put_one blocks faults tells clock image at block before after result old new is written =
+pub put_one : {D U E : Type 0} (g : Ghosts D) (at : ℕ) (block before after : List ℕ) (result : Result U E) (old new : D) → before ≡ at ∷ after
+    → HasWritten g at block result old new → HasPut g before after old new
+put_one g at block before after result old new is written =
     let one : taken_of before after ≡ at ∷ [] = taken_front before (at ∷ []) after is in
     record {
       left = is ∙ ap (λ (t : List ℕ). t ++ after) (sym one);
-      content = λ all told. rw one (put_content result at block (blocks old) (blocks new) written.content all told);
+      content = λ all told. rw one (put_content result at block (g.blocks old) (g.blocks new) written.content all told);
       untold = written.content.untold;
       later = written.counts.later;
       past = written.past;
@@ -138,16 +139,15 @@ put_one blocks faults tells clock image at block before after result old new is 
         (failed.0, failed.1, beside_of_but at all failed.0 failed.2)
 
 -- a device that nothing was done to
-pub looked_same : {D : Type 0} (blocks : D → Option (List (List ℕ))) (faults : D → ℕ) (tells : D → Bool) (clock : D → ℕ)
-    (image : D → ℕ → List (List ℕ) → Type 0) (now : D) → HasLooked blocks faults tells clock image now now
-looked_same blocks faults tells clock image now = record {
+pub looked_same : {D : Type 0} (g : Ghosts D) (now : D) → HasLooked g now now
+looked_same g now = record {
   unchanged = refl;
   later = omega arith;
-  past = record { same = refl; later = omega arith; keeps = λ t b early left. left; no_more = λ t b early left. left };
+  past = record { same = refl; later = omega arith; keeps = λ t b early left. left; no_more = λ t b early left. left; keeps_whole = λ t i x early here. here; whole_before = λ t i x early here. here };
   since = λ t b since until left. rw (← same t since until) left;
 }
   where
-    same : (t : ℕ) → clock now ≤ t → t ≤ clock now → t ≡ clock now
+    same : (t : ℕ) → g.clock now ≤ t → t ≤ g.clock now → t ≡ g.clock now
     same t since until = omega (arith, since, until)
 
 -- the first of the blocks that may be taken is in the store
@@ -170,15 +170,14 @@ pub told_same : (old new : Option (List (List ℕ))) (now all : List (List ℕ))
 told_same old new now all same is told = cc
 
 -- looking once more
-pub looked_then : {D : Type 0} (blocks : D → Option (List (List ℕ))) (faults : D → ℕ) (tells : D → Bool) (clock : D → ℕ)
-    (image : D → ℕ → List (List ℕ) → Type 0) (old between new : D) → HasLooked blocks faults tells clock image old between
-    → HasLooked blocks faults tells clock image between new → HasLooked blocks faults tells clock image old new
-looked_then blocks faults tells clock image old between new first second = record {
+pub looked_then : {D : Type 0} (g : Ghosts D) (old between new : D) → HasLooked g old between
+    → HasLooked g between new → HasLooked g old new
+looked_then g old between new first second = record {
   unchanged = second.unchanged ∙ first.unchanged;
   later = omega (arith, first.later, second.later);
-  past = past_then tells clock image old between new first.past second.past;
-  since = λ t b since until left. elim (cases_lt (clock between) t) [
-    | inl after ↦ first.since (clock between) b first.past.later (omega arith) (second.since t b (omega (arith, after)) until left)
+  past = past_then g old between new first.past second.past;
+  since = λ t b since until left. elim (cases_lt (g.clock between) t) [
+    | inl after ↦ first.since (g.clock between) b first.past.later (omega arith) (second.since t b (omega (arith, after)) until left)
     | inr early ↦ first.since t b since early (second.past.no_more t b early left)
   ];
 }

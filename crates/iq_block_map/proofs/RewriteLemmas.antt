@@ -4,6 +4,7 @@ use Rattle.std.specs.List.{All, list_all, IsDistinct}
 use Rattle.std.proofs.Common.{refl, sym, ap, subst, ◌∙◌, inl, inr, arith, length-append}
 use Rattle.std.proofs.lemmas.List.{get_or-take, get_or-drop, length-take, drop_all, take_all, drop-drop, drop-set-lt, get_or-append_right}
 use Rattle.std.proofs.lemmas.Bool.{and_parts, eq-eqb, ne_eqb, eqb-true, cases_lt, cases_eq}
+use Rattle.iq_outside.specs.declared.device.Device.{Ghosts}
 use Rattle.iq_outside.specs.Devices.{block_of}
 use Rattle.iq_block_map.specs.declared.refs.Ref.{Ref}
 use Rattle.iq_block_map.specs.Maps.{is_address}
@@ -19,22 +20,21 @@ use Rattle.iq_block_map.proofs.NextLemmas.{distinct_parts, head_apart, stays_nex
 use Rattle.iq_block_map.proofs.ReadLemmas.{address_at}
 
 -- a device that tells its blocks now told them before
-pub put_told : {D : Type 0} (blocks : D → Option (List (List ℕ))) (faults : D → ℕ) (tells : D → Bool) (clock : D → ℕ)
-    (image : D → ℕ → List (List ℕ) → Type 0) (before after : List ℕ) (old new : D) (now : List (List ℕ))
-    → HasPut blocks faults tells clock image before after old new → blocks new ≡ Some now
-    → (all : List (List ℕ)) × (blocks old ≡ Some all) × SameBeside (taken_of before after) all now
-put_told blocks faults tells clock image before after old new now put told = go (blocks old) refl
+pub put_told : {D : Type 0} (g : Ghosts D) (before after : List ℕ) (old new : D) (now : List (List ℕ))
+    → HasPut g before after old new → g.blocks new ≡ Some now
+    → (all : List (List ℕ)) × (g.blocks old ≡ Some all) × SameBeside (taken_of before after) all now
+put_told g before after old new now put told = go (g.blocks old) refl
   where
-    go : (o : Option (List (List ℕ))) → blocks old ≡ o → (all : List (List ℕ)) × (blocks old ≡ Some all) × SameBeside (taken_of before after) all now
+    go : (o : Option (List (List ℕ))) → g.blocks old ≡ o → (all : List (List ℕ)) × (g.blocks old ≡ Some all) × SameBeside (taken_of before after) all now
     go None is = absurd (never (put.untold is))
       where
-        never : blocks new ≡ None → ⊥
+        never : g.blocks new ≡ None → ⊥
         never not = cc (sym told ∙ not)
     go (Some all) is =
         let there = put.content all is in
         (all, is, subst (SameBeside (taken_of before after) all) (one there.0 there.1) there.2)
       where
-        one : (b : List (List ℕ)) → blocks new ≡ Some b → b ≡ now
+        one : (b : List (List ℕ)) → g.blocks new ≡ Some b → b ≡ now
         one b other = cc
 
 distinct_after : (taken after : List ℕ) → IsDistinct nat_eq (taken ++ after) → IsDistinct nat_eq after
@@ -48,13 +48,12 @@ all_after P taken after each k d within =
     subst P at (each (length taken + k) d (omega (arith, within, length-append taken after)))
 
 -- what is left may still be taken
-pub spare_after : {D : Type 0} (blocks : D → Option (List (List ℕ))) (faults : D → ℕ) (tells : D → Bool) (clock : D → ℕ)
-    (image : D → ℕ → List (List ℕ) → Type 0) (before after : List ℕ) (old new : D) → AreSpare (blocks old) before
-    → HasPut blocks faults tells clock image before after old new → AreSpare (blocks new) after
-spare_after blocks faults tells clock image before after old new spare put = record {
+pub spare_after : {D : Type 0} (g : Ghosts D) (before after : List ℕ) (old new : D) → AreSpare (g.blocks old) before
+    → HasPut g before after old new → AreSpare (g.blocks new) after
+spare_after g before after old new spare put = record {
   distinct = distinct_after (taken_of before after) after (subst (IsDistinct nat_eq) put.left spare.distinct);
   inside = λ now told.
-      let there = put_told blocks faults tells clock image before after old new now put told in
+      let there = put_told g before after old new now put told in
       let each = spare.inside there.0 there.1 in
       subst (λ (n : ℕ). All (λ b. is_address n b ≡ true) after) (sym there.2.size)
       (all_after (λ b. is_address (length there.0) b ≡ true) (taken_of before after) after

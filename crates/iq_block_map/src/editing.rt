@@ -40,7 +40,7 @@ pub fn remap<D: Device, T: Taker>(
     requires changed { AreBlocks (D.blocks disk.old) (new_blocks changed.now) }
     requires added { AreBlocks (D.blocks disk.old) added.now }
     requires spare { AreSpare (D.blocks disk.old) (T.left space.old) }
-    ensures put { HasPut D.blocks D.faults D.tells D.clock D.image (T.left space.old) (T.left space.new) disk.old disk.new }
+    ensures put { HasPut D.Device (T.left space.old) (T.left space.new) disk.old disk.new }
     ensures ok { IfOk result (λ new. (all : List (List ℕ)) (xs : List ℕ) → D.blocks disk.old ≡ Some all
         → AreApart all old (T.left space.old) → addresses_of all old ≡ Ok xs
         → IsNowIn (λ now. HasRemapped all now old new xs (edited xs changed.now added.now) (T.left space.old) (T.left space.new)) (D.blocks disk.new)) }
@@ -72,7 +72,7 @@ fn rebuild<D: Device, T: Taker>(
     requires changed { AreBlocks (D.blocks disk.old) (new_blocks changed.now) }
     requires added { AreBlocks (D.blocks disk.old) added.now }
     requires spare { AreSpare (D.blocks disk.old) (T.left space.old) }
-    ensures put { HasPut D.blocks D.faults D.tells D.clock D.image (T.left space.old) (T.left space.new) disk.old disk.new }
+    ensures put { HasPut D.Device (T.left space.old) (T.left space.new) disk.old disk.new }
     ensures ok { IfOk result (λ new. (all : List (List ℕ)) (xs : List ℕ) → D.blocks disk.old ≡ Some all
         → AreApart all old (T.left space.old) → addresses_of all old ≡ Ok xs
         → IsNowIn (λ now. HasRemapped all now old new xs (edited xs changed.now added.now) (T.left space.old) (T.left space.new)) (D.blocks disk.new)) }
@@ -101,7 +101,7 @@ fn top<D: Device, T: Taker>(
     pages: u32,
 ) -> Result<u32, MapFault>
     requires spare { AreSpare (D.blocks disk.old) (T.left space.old) }
-    ensures put { HasPut D.blocks D.faults D.tells D.clock D.image (T.left space.old) (T.left space.new) disk.old disk.new }
+    ensures put { HasPut D.Device (T.left space.old) (T.left space.new) disk.old disk.new }
     ensures ok { IfOk result (λ root. (all : List (List ℕ)) → D.blocks disk.old ≡ Some all
         → IsNowIn (λ now. EndsTop all now old before.now leaves.now pages root (T.left space.old) (T.left space.new)) (D.blocks disk.new)) }
     ensures cause { IfErr result (λ e. IsPutFault
@@ -142,7 +142,7 @@ fn rewrite_leaves<D: Device, T: Taker>(
     requires changed { AreBlocks (D.blocks disk.old) (new_blocks changed.now) }
     requires added { AreBlocks (D.blocks disk.old) added.now }
     requires spare { AreSpare (D.blocks disk.old) (T.left space.old) }
-    ensures put { HasPut D.blocks D.faults D.tells D.clock D.image (T.left space.old) (T.left space.new) disk.old disk.new }
+    ensures put { HasPut D.Device (T.left space.old) (T.left space.new) disk.old disk.new }
     ensures ok { IfOk result (λ leaves. (all : List (List ℕ)) (xs : List ℕ) → D.blocks disk.old ≡ Some all
         → IsOpened all old before.now xs (T.left space.old)
         → IsNowIn (λ now. HasLeaves all now before.now leaves xs (edited xs changed.now added.now) (T.left space.old) (T.left space.new)) (D.blocks disk.new)) }
@@ -191,7 +191,7 @@ fn rewrite_leaf<D: Device, T: Taker>(
     requires here { AreChanges leaf.first (leaf.first + leaf.used) here.now }
     requires more { AreBlocks (D.blocks disk.old) more.now }
     requires spare { AreSpare (D.blocks disk.old) (T.left space.old) }
-    ensures put { HasPut D.blocks D.faults D.tells D.clock D.image (T.left space.old) (T.left space.new) disk.old disk.new }
+    ensures put { HasPut D.Device (T.left space.old) (T.left space.new) disk.old disk.new }
     ensures ok { IfOk result (λ made. (all : List (List ℕ)) (xs : List ℕ) → D.blocks disk.old ≡ Some all
         → leaf_at all leaf.used leaf.at ≡ Ok xs
         → IsNowIn (λ now. EndsLeaf all now leaf.at made xs (replaced_from leaf.first xs here.now ++ more.now) (T.left space.old) (T.left space.new)) (D.blocks disk.new)) }
@@ -217,7 +217,7 @@ fn read_leaf<D: Device>(disk: &mut D, count: u32, leaf: Leaf) -> Result<Places, 
     requires count { (all : List (List ℕ)) → D.blocks disk.old ≡ Some all → count ≡ length all }
     requires leaf { (all : List (List ℕ)) → D.blocks disk.old ≡ Some all → 1 ≤ leaf.used → leaf.at < length all }
     requires used { leaf.used ≤ 252 }
-    ensures looked { HasLooked D.blocks D.faults D.tells D.clock D.image disk.old disk.new }
+    ensures looked { HasLooked D.Device disk.old disk.new }
     ensures ok { IfOk result (λ ps. (all : List (List ℕ)) → D.blocks disk.old ≡ Some all
         → leaf_at all leaf.used leaf.at ≡ Ok (take leaf.used ps)) }
     ensures padded { IfOk result (λ ps. ps ≡ padded (take leaf.used ps)) }

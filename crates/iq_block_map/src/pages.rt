@@ -26,7 +26,7 @@ pub fn with_page<D: Device, T: Taker>(
     requires object { IsIn (D.blocks disk.old) object }
     requires page { n < object.pages }
     requires spare { AreSpare (D.blocks disk.old) (T.left space.old) }
-    ensures put { HasPut D.blocks D.faults D.tells D.clock D.image (T.left space.old) (T.left space.new) disk.old disk.new }
+    ensures put { HasPut D.Device (T.left space.old) (T.left space.new) disk.old disk.new }
     ensures ok { IfOk result (λ new. (all : List (List ℕ)) (ps : List (List ℕ)) → D.blocks disk.old ≡ Some all
         → AreApart all object (T.left space.old) → pages_of all object ≡ Some ps
         → IsNowIn (λ now. pages_of now new ≡ Some (slice_set ps n from.now)) (D.blocks disk.new)) }
@@ -55,7 +55,7 @@ pub fn push<D: Device, T: Taker>(
     requires object { IsIn (D.blocks disk.old) object }
     requires most { object.pages < 63504 }
     requires spare { AreSpare (D.blocks disk.old) (T.left space.old) }
-    ensures put { HasPut D.blocks D.faults D.tells D.clock D.image (T.left space.old) (T.left space.new) disk.old disk.new }
+    ensures put { HasPut D.Device (T.left space.old) (T.left space.new) disk.old disk.new }
     ensures ok { IfOk result (λ new. (all : List (List ℕ)) (ps : List (List ℕ)) → D.blocks disk.old ≡ Some all
         → AreApart all object (T.left space.old) → pages_of all object ≡ Some ps
         → IsNowIn (λ now. pages_of now new ≡ Some (ps ++ from.now ∷ [])) (D.blocks disk.new)) }

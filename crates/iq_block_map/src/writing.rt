@@ -18,7 +18,7 @@ pub fn put<D: Device, T: Taker>(
     payload: &Page,
 ) -> Result<u32, MapFault>
     requires spare { AreSpare (D.blocks disk.old) (T.left space.old) }
-    ensures put { HasPut D.blocks D.faults D.tells D.clock D.image (T.left space.old) (T.left space.new) disk.old disk.new }
+    ensures put { HasPut D.Device (T.left space.old) (T.left space.new) disk.old disk.new }
     ensures fits { IfOk result (λ at. at < 2 ^ 32) }
     ensures left { IfOk result (λ at. T.left space.old ≡ at ∷ T.left space.new) }
     ensures block { IfOk result (λ at. (all : List (List ℕ)) → D.blocks disk.old ≡ Some all

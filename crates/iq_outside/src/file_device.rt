@@ -138,6 +138,8 @@ impl<R: Files<File = File> + Drop> Device for FileDevice<R> {
 
     ghost image = { λ _ _ _. ⊥ };
 
+    ghost whole = { λ _ _ _ _. ⊥ };
+
     fn count(&mut self) -> Result<u32, Failed> {
         let outcome = self.try_count();
         self.told(outcome)
@@ -172,4 +174,6 @@ impl<R: Files<File = File> + Drop> Device for FileDevice<R> {
     }
 
     ghost reads_now = { Prim.search rules };
+
+    ghost stays_whole = { Prim.search rules };
 }

@@ -1,6 +1,8 @@
 -- What publishing a root does, also where a stop cuts it short.
 use Rattle.std.specs.Prelude.{◌≡◌, ◌⊎◌, ℕ, ◌+◌, ◌%◌, ◌^◌, ◌<◌, ◌≤◌, Bool, true, false, List, Option, Some, Result, OnOk, slice_set}
-use Rattle.iq_outside.specs.Devices.{block_of, KeepsPast, AddsAt, IsSettled, Stored}
+use Rattle.iq_outside.specs.declared.device.Device.{Ghosts}
+use Rattle.iq_outside.specs.Devices.{block_of, Stored}
+use Rattle.iq_outside.specs.DeviceCalls.{KeepsPast, AddsAt, IsSettled}
 use Rattle.iq_block_store.specs.Frames.{has_header}
 use Rattle.iq_root.specs.Roots.{body_kind, gate_kind, least_format, most_format, body_place, gate_place, long_at, newest, body_block, gate_block}
 use Rattle.iq_root.specs.Stops.{SameButSlot}
@@ -56,16 +58,14 @@ SameRoots all b = (i : ℕ) → i < 4 → block_of b i ≡ block_of all i
 
 -- What a promise over stops takes for granted of the blocks of roots. No write to them waits for a sync; and the body in the slot to
 -- be written is stale, or else a gate that a write or a stop tears is whole or has no right header.
-pub record RootsAreSafe {D : Type 0} (clock : D → ℕ) (image : D → ℕ → List (List ℕ) → Type 0) (all : List (List ℕ)) (last root : Root)
-    (old new : D) : Type 0 where
-  pub settled : (b : List (List ℕ)) → image old (clock old) b → SameRoots all b
+pub record RootsAreSafe {D : Type 0} (g : Ghosts D) (all : List (List ℕ)) (last root : Root) (old new : D) : Type 0 where
+  pub settled : (b : List (List ℕ)) → g.image old (g.clock old) b → SameRoots all b
   pub torn : IsStale all last root
-      ⊎ ((t : ℕ) (b : List (List ℕ)) → clock old ≤ t → t ≤ clock new → image new t b → IsGateWhole all root b)
+      ⊎ ((t : ℕ) (b : List (List ℕ)) → g.clock old ≤ t → t ≤ g.clock new → g.image new t b → IsGateWhole all root b)
 
 -- A block was written and synced. At Ok it is in its place and nothing waits any more; at a fault any bytes may be there.
-pub record HasKept {D T E : Type 0} (blocks : D → Option (List (List ℕ))) (tells : D → Bool) (clock : D → ℕ)
-    (image : D → ℕ → List (List ℕ) → Type 0) (at : ℕ) (block : List ℕ) (result : Result T E) (old new : D) : Type 0 where
-  pub content : Stored at block result (blocks old) (blocks new)
-  pub past : KeepsPast tells clock image old new
-  pub since : AddsAt at clock image old new
-  pub settled : OnOk result (IsSettled blocks clock image new)
+pub record HasKept {D T E : Type 0} (g : Ghosts D) (at : ℕ) (block : List ℕ) (result : Result T E) (old new : D) : Type 0 where
+  pub content : Stored at block result (g.blocks old) (g.blocks new)
+  pub past : KeepsPast g old new
+  pub since : AddsAt g at old new
+  pub settled : OnOk result (IsSettled g new)

@@ -1,6 +1,7 @@
 //! Making an empty store.
 ghost use Rattle.std.specs.Prelude.{◌≡◌, ◌<◌, ◌≤◌, ℕ, List, Some, length, OnOk, IfErr};
-ghost use Rattle.iq_outside.specs.Devices.{KeepsPast, IsSettled, resized};
+ghost use Rattle.iq_outside.specs.Devices.{resized};
+ghost use Rattle.iq_outside.specs.DeviceCalls.{KeepsPast, IsSettled};
 ghost use Rattle.iq_root.specs.Roots.{newest};
 ghost use Rattle.iq_root.specs.Pages.{RootFits};
 ghost use Rattle.iq_root.specs.Publishing.{with_slot};
@@ -23,8 +24,8 @@ pub fn format<D: Device>(disk: &mut D, count: u32) -> Result<(), RootFault>
         → D.blocks disk.new ≡ Some (formatted count (resized count all))) }
     ensures newest { OnOk result ((all : List (List ℕ)) → D.blocks disk.old ≡ Some all
         → newest (formatted count (resized count all)) ≡ Some (empty_root 1 count)) }
-    ensures settled { OnOk result (IsSettled D.blocks D.clock D.image disk.new) }
-    ensures past { KeepsPast D.tells D.clock D.image disk.old disk.new }
+    ensures settled { OnOk result (IsSettled D.Device disk.new) }
+    ensures past { KeepsPast D.Device disk.old disk.new }
     ensures cause { IfErr result (λ e. HasFault e (D.faults disk.old) (D.faults disk.new)) }
     ensures later { D.faults disk.old ≤ D.faults disk.new }
 {
@@ -54,7 +55,7 @@ fn put_slot<D: Device>(disk: &mut D, slot: u32, root: &Root, gate: u64) -> Resul
         → D.blocks disk.new ≡ Some (with_slot slot root.now gate all)) }
     ensures long { OnOk result ((all : List (List ℕ)) → D.blocks disk.new ≡ Some all → 4 ≤ length all) }
     ensures fits { RootFits root.now }
-    ensures past { KeepsPast D.tells D.clock D.image disk.old disk.new }
+    ensures past { KeepsPast D.Device disk.old disk.new }
     ensures cause { IfErr result (λ e. HasFault e (D.faults disk.old) (D.faults disk.new)) }
     ensures later { D.faults disk.old ≤ D.faults disk.new }
 {

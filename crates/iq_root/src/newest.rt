@@ -19,7 +19,7 @@ const MOST_FORMAT: u32 = 2;
 
 /// The newest root: of the valid slots the one of greater generation. It takes no memory.
 pub fn newest_root<D: Device>(disk: &mut D) -> Result<Root, RootFault>
-    ensures looked { HasLooked D.blocks D.faults D.tells D.clock D.image disk.old disk.new }
+    ensures looked { HasLooked D.Device disk.old disk.new }
     ensures newest { IfOk result (λ root. (all : List (List ℕ)) → D.blocks disk.old ≡ Some all
         → newest all ≡ Some root) }
     ensures cause { IfErr result (λ e.
@@ -35,7 +35,7 @@ pub fn newest_root<D: Device>(disk: &mut D) -> Result<Root, RootFault>
 fn slot_root<D: Device>(disk: &mut D, count: u32, slot: u32) -> Result<Option<Root>, RootFault>
     requires counted { (all : List (List ℕ)) → D.blocks disk.old ≡ Some all → count ≡ length all }
     requires slot { slot < 2 }
-    ensures looked { HasLooked D.blocks D.faults D.tells D.clock D.image disk.old disk.new }
+    ensures looked { HasLooked D.Device disk.old disk.new }
     ensures root { IfOk result (λ root. (all : List (List ℕ)) → D.blocks disk.old ≡ Some all
         → root ≡ slot_root slot all) }
     ensures cause { IfErr result (λ e. HasFault e (D.faults disk.old) (D.faults disk.new)) }
@@ -63,7 +63,7 @@ fn fetched<D: Device>(
     into: &mut Block,
 ) -> Result<bool, RootFault>
     requires { (all : List (List ℕ)) → D.blocks disk.old ≡ Some all → count ≡ length all }
-    ensures looked { HasLooked D.blocks D.faults D.tells D.clock D.image disk.old disk.new }
+    ensures looked { HasLooked D.Device disk.old disk.new }
     ensures headed { IfOk result (λ b. (all : List (List ℕ)) → D.blocks disk.old ≡ Some all
         → b ≡ has_header kind at (block_of all at)) }
     ensures block { IfOk result (λ b. IsTrue b → (all : List (List ℕ)) → D.blocks disk.old ≡ Some all

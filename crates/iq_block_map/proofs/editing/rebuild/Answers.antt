@@ -54,19 +54,19 @@ returns-in_err-leaves-clause-cause g c =
 
 pub top-requires : goal.top-requires
 top-requires g c = record {
-  spare = spare_after _ _ _ _ _ _ _ _ _
+  spare = spare_after g.D.Device _ _ _ _
       (subst (λ (o : Option (List (List ℕ))). AreSpare o (g.T.Taker.left c.args.space.now)) (sym (c.leaves_of.ensures.looked.unchanged ∙ c.count_of.ensures.looked.unchanged)) c.requires.spare)
       c.rewrite_leaves.ensures.put;
 }
 
 pub returns-in_err-root-clause-put : goal.returns-in_err-root-clause-put
 returns-in_err-root-clause-put g c =
-    put_then _ _ _ _ _ _ _ _ _ _ _ (put_then _ _ _ _ _ _ _ _ _ _ _ (put_none _ _ _ _ _ _ _ _ (looked_then _ _ _ _ _ _ _ _ c.count_of.ensures.looked c.leaves_of.ensures.looked))
+    put_then _ _ _ _ _ _ _ (put_then _ _ _ _ _ _ _ (put_none _ _ _ _ (looked_then _ _ _ _ c.count_of.ensures.looked c.leaves_of.ensures.looked))
     c.rewrite_leaves.ensures.put) c.top.ensures.put
 
 pub returns-clause-put : goal.returns-clause-put
 returns-clause-put g c =
-    put_then _ _ _ _ _ _ _ _ _ _ _ (put_then _ _ _ _ _ _ _ _ _ _ _ (put_none _ _ _ _ _ _ _ _ (looked_then _ _ _ _ _ _ _ _ c.count_of.ensures.looked c.leaves_of.ensures.looked))
+    put_then _ _ _ _ _ _ _ (put_then _ _ _ _ _ _ _ (put_none _ _ _ _ (looked_then _ _ _ _ c.count_of.ensures.looked c.leaves_of.ensures.looked))
     c.rewrite_leaves.ensures.put) c.top.ensures.put
 
 pub returns-clause-ok : goal.returns-clause-ok
@@ -83,7 +83,7 @@ returns-clause-ok g c = λ all xs told apart is now told_now.
       listed = listed_from all c.args.old (take lc c.in_ok-before.before) xs leaves is;
       apart = apart.leaves (take lc c.in_ok-before.before) leaves;
     } in
-    let spare : AreSpare (g.D.Device.blocks c.rewrite_leaves.new.disk) (g.T.Taker.left c.rewrite_leaves.new.space) = spare_after _ _ _ _ _ _ _ _ _
+    let spare : AreSpare (g.D.Device.blocks c.rewrite_leaves.new.disk) (g.T.Taker.left c.rewrite_leaves.new.space) = spare_after g.D.Device _ _ _ _
     (subst (λ (o : Option (List (List ℕ))). AreSpare o (g.T.Taker.left c.args.space.now)) (sym (c.leaves_of.ensures.looked.unchanged ∙ c.count_of.ensures.looked.unchanged)) c.requires.spare)
     c.rewrite_leaves.ensures.put in
     let count : length xs ≡ c.args.old.pages = addresses_count all c.args.old xs c.requires.object.few is in

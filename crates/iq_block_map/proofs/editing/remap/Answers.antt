@@ -5,7 +5,7 @@ use Rattle.iq_block_map.proofs.TopLemmas.{remap_none}
 use Rattle.iq_block_map.proofs.editing.remap.Goals as goal
 
 pub returns-then-is_empty-2-clause-put : goal.returns-then-is_empty-2-clause-put
-returns-then-is_empty-2-clause-put g c = put_none _ _ _ _ _ _ _ _ (looked_same _ _ _ _ _ _)
+returns-then-is_empty-2-clause-put g c = put_none _ _ _ _ (looked_same _ _)
 
 pub returns-then-is_empty-2-clause-ok : goal.returns-then-is_empty-2-clause-ok
 returns-then-is_empty-2-clause-ok g c = λ all xs told apart is now told_now.

@@ -7,7 +7,7 @@ use Rattle.iq_block_map.proofs.PutLemmas.{put_none, looked_same, told_same}
 use Rattle.iq_block_map.proofs.editing.rewrite_leaf.Goals as goal
 
 pub returns-then-is_empty-2-clause-put : goal.returns-then-is_empty-2-clause-put
-returns-then-is_empty-2-clause-put g c = put_none _ _ _ _ _ _ _ _ (looked_same _ _ _ _ _ _)
+returns-then-is_empty-2-clause-put g c = put_none _ _ _ _ (looked_same _ _)
 
 pub returns-then-eq-clause-ok : goal.returns-then-eq-clause-ok
 returns-then-eq-clause-ok g c = λ all xs told at now is. inl record {

@@ -16,7 +16,7 @@ use Rattle.iq_block_map.proofs.editing.rewrite_leaves.Goals as goal
 
 pub loop-k-init : goal.loop-k-init
 loop-k-init g c = record {
-  put = put_none _ _ _ _ _ _ _ _ (looked_same _ _ _ _ _ _);
+  put = put_none _ _ _ _ (looked_same _ _);
   changes = c.requires.changes;
   added = c.requires.added;
   long = search rules;
@@ -30,7 +30,7 @@ split_at-requires g c = rw c.count_below.ensures (prefix_few (252 * (c.loop-k.k 
 
 pub rewrite_leaf-requires-clause-leaf : goal.rewrite_leaf-requires-clause-leaf
 rewrite_leaf-requires-clause-leaf g c = λ now told some.
-    let there = put_told _ _ _ _ _ _ _ _ _ now c.loop-k.invariant.put told in
+    let there = put_told g.D.Device _ _ _ _ now c.loop-k.invariant.put told in
     let within : c.loop-k.k < leaf_count c.args.old.pages = omega (arith, some, c.used_in.ensures) in
     let fits : leaf_count c.args.old.pages ≤ 252 = omega (arith, c.requires.most) in
     let old_one = below_count (length there.0) (leaf_count c.args.old.pages) c.loop-k.k c.args.before.now (c.requires.before there.0 there.1) within fits in
@@ -41,10 +41,10 @@ rewrite_leaf-requires-clause-here g c = rw (c.used_in.ensures, c.split_at.ensure
     (here_changes c.loop-k.k c.args.old.pages c.loop-k.to_change.now c.loop-k.invariant.changes).0
 
 pub rewrite_leaf-requires-clause-spare : goal.rewrite_leaf-requires-clause-spare
-rewrite_leaf-requires-clause-spare g c = spare_after _ _ _ _ _ _ _ _ _ c.requires.spare c.loop-k.invariant.put
+rewrite_leaf-requires-clause-spare g c = spare_after g.D.Device _ _ _ _ c.requires.spare c.loop-k.invariant.put
 
 pub returns-in_err-leaves-clause-put : goal.returns-in_err-leaves-clause-put
-returns-in_err-leaves-clause-put g c = put_then _ _ _ _ _ _ _ _ _ _ _ c.loop-k.invariant.put c.rewrite_leaf.ensures.put
+returns-in_err-leaves-clause-put g c = put_then _ _ _ _ _ _ _ c.loop-k.invariant.put c.rewrite_leaf.ensures.put
 
 pub returns-in_err-leaves-clause-cause : goal.returns-in_err-leaves-clause-cause
 returns-in_err-leaves-clause-cause g c =
@@ -82,7 +82,7 @@ pub loop-k-preserved : goal.loop-k-preserved
 loop-k-preserved g c =
     let cut = here_changes c.loop-k.k c.args.old.pages c.loop-k.to_change.now c.loop-k.invariant.changes in
     record {
-      put = put_then _ _ _ _ _ _ _ _ _ _ _ c.loop-k.invariant.put c.rewrite_leaf.ensures.put;
+      put = put_then _ _ _ _ _ _ _ c.loop-k.invariant.put c.rewrite_leaf.ensures.put;
       changes = rw (c.split_at.ensures.back, c.count_below.ensures) cut.1;
       added = λ all told. rw c.split_at-in-loop-k.ensures.back (all_drop (λ a. is_address (length all) a ≡ true) c.min.result c.loop-k.to_add.now (c.loop-k.invariant.added all told));
       long = length-set c.loop-k.leaves c.loop-k.k c.in_ok-leaves.field-0 ∙ c.loop-k.invariant.long;
@@ -96,7 +96,7 @@ loop-k-preserved g c =
           let count : length xs ≡ c.args.old.pages = listed_count all c.args.old.pages (take lc c.args.before.now) xs opened.listed (omega (arith, size)) in
           let pages : length ys ≡ c.args.old.pages + length c.args.added.now = length-edited xs c.args.changed.now c.args.added.now ∙ omega (arith, count) in
           let within : c.loop-k.k < leaf_count (c.args.old.pages + length c.args.added.now) = omega (arith, c.loop-k-test.true, c.leaf_count-k-end.ensures) in
-          let spare = spare_after _ _ _ _ _ _ _ _ _ c.requires.spare c.loop-k.invariant.put in
+          let spare = spare_after g.D.Device _ _ _ _ c.requires.spare c.loop-k.invariant.put in
           let pieces = piece_at c.loop-k.k c.args.old.pages xs ys c.loop-k.to_change.now c.loop-k.to_add.now count c.loop-k.invariant.changes (c.loop-k.invariant.rest xs count) in
           let pieced : piece c.loop-k.k ys ≡ replaced_from (252 * c.loop-k.k) (piece c.loop-k.k xs) c.split_at.result.0.now ++ c.split_at-in-loop-k.result.0.now
           = rw (c.split_at.ensures.front, c.count_below.ensures, c.split_at-in-loop-k.ensures.front, c.min.ensures, c.used_in.ensures) pieces.here in

@@ -7,8 +7,7 @@ use Rattle.iq_block_map.proofs.editing.rewrite_leaves.Given as goal
 
 abbrev pub invariant-loop-k : goal.invariant-loop-k
 invariant-loop-k g l = record {
-  put : HasPut g.D.Device.blocks g.D.Device.faults g.D.Device.tells g.D.Device.clock g.D.Device.image
-      (g.T.Taker.left l.fn.space) (g.T.Taker.left l.space) l.fn.disk l.disk;
+  put : HasPut g.D.Device (g.T.Taker.left l.fn.space) (g.T.Taker.left l.space) l.fn.disk l.disk;
   changes : AreChanges (252 * l.k) l.old.pages l.to_change;
   added : AreBlocks (g.D.Device.blocks l.fn.disk) l.to_add;
   long : length l.leaves ≡ 252;

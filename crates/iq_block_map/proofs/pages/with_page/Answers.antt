@@ -11,11 +11,11 @@ use Rattle.iq_block_map.proofs.ReachLemmas.{ArePages, IsFree, IsPaged, new_page,
 use Rattle.iq_block_map.proofs.pages.with_page.Goals as goal
 
 pub remap-requires-clause-spare : goal.remap-requires-clause-spare
-remap-requires-clause-spare g c = spare_after _ _ _ _ _ _ _ _ _ c.requires.spare c.put.ensures.put
+remap-requires-clause-spare g c = spare_after g.D.Device _ _ _ _ c.requires.spare c.put.ensures.put
 
 pub remap-requires-clause-changed : goal.remap-requires-clause-changed
 remap-requires-clause-changed g c = λ now told k d within.
-    let there = put_told _ _ _ _ _ _ _ _ _ now c.put.ensures.put told in
+    let there = put_told g.D.Device _ _ _ _ now c.put.ensures.put told in
     let first : is_address (length there.0) c.in_ok-at.at ≡ true
     = ap (λ (t : List ℕ). is_address (length there.0) (slice_index t 0)) (sym c.in_ok-at.ensures.left)
     ∙ c.requires.spare.inside there.0 there.1 0 0 (omega (arith, ap length c.in_ok-at.ensures.left)) in
@@ -23,7 +23,7 @@ remap-requires-clause-changed g c = λ now told k d within.
     rw (zero_k, there.2.size) first
 
 pub returns-clause-put : goal.returns-clause-put
-returns-clause-put g c = put_then _ _ _ _ _ _ _ _ _ _ _ c.put.ensures.put c.remap.ensures.put
+returns-clause-put g c = put_then _ _ _ _ _ _ _ c.put.ensures.put c.remap.ensures.put
 
 pub returns-clause-ok : goal.returns-clause-ok
 returns-clause-ok g c = ok_on _ _ c.remap.result

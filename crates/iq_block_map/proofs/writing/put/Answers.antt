@@ -5,13 +5,13 @@ pub write-requires : goal.write-requires
 write-requires g c = λ all told. first_inside _ all _ _ _ c.requires.spare told c.in-Some.ensures
 
 pub returns-in_default-clause-put : goal.returns-in_default-clause-put
-returns-in_default-clause-put g c = rw (c.in_default.ensures.0, c.in_default.ensures.1) (put_none _ _ _ _ _ _ _ _ (looked_same _ _ _ _ _ _))
+returns-in_default-clause-put g c = rw (c.in_default.ensures.0, c.in_default.ensures.1) (put_none _ _ _ _ (looked_same _ _))
 
 pub returns-in-Ok-clause-put : goal.returns-in-Ok-clause-put
-returns-in-Ok-clause-put g c = put_one _ _ _ _ _ c.in-Some.at _ _ _ c.write.result _ _ c.in-Some.ensures c.write.ensures.written
+returns-in-Ok-clause-put g c = put_one g.D.Device c.in-Some.at _ _ _ c.write.result _ _ c.in-Some.ensures c.write.ensures.written
 
 pub returns-in-Ok-clause-block : goal.returns-in-Ok-clause-block
 returns-in-Ok-clause-block g c = λ all told. written_ok c.write.result _ _ _ _ c.in-Ok.is c.write.ensures.written.content all told
 
 pub returns-in-Err-StoreFault-clause-put : goal.returns-in-Err-StoreFault-clause-put
-returns-in-Err-StoreFault-clause-put g c = put_one _ _ _ _ _ c.in-Some.at _ _ _ c.write.result _ _ c.in-Some.ensures c.write.ensures.written
+returns-in-Err-StoreFault-clause-put g c = put_one g.D.Device c.in-Some.at _ _ _ c.write.result _ _ c.in-Some.ensures c.write.ensures.written
