@@ -8,9 +8,9 @@ use Rattle.std.proofs.lemmas.Bool.{eqb-false, cases_eq}
 use Rattle.iq_world.specs.declared.worlds.World.{World}
 use Rattle.iq_world.specs.declared.worlds.WorldNode.{WorldNode}
 use Rattle.iq_world.specs.declared.worlds.WorldRun.{WorldRun}
-use Rattle.iq_world.specs.World.{times, holds, put_all, node_at, no_node, run_place, run_of, no_run}
+use Rattle.iq_world.specs.World.{times, holds, put_all, node_at, no_node, run_place, run_of, no_run, runs_on}
 use Rattle.iq_world.specs.Space.{all_reserved, all_private, times_free, times_loose}
-use Rattle.iq_world.specs.Steps.{with_node, freed, home, sent_home, less, left_home, with_private, without_run, runs_on, cleared}
+use Rattle.iq_world.specs.Steps.{with_node, freed, home, sent_home, less, left_home, with_private, without_run, cleared}
 use Rattle.iq_world.proofs.Times.{one, times-append, times-flat_map, times-put_all, times-less}
 
 -- the node at a place after one was changed
