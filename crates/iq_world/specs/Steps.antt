@@ -39,7 +39,7 @@ sent_home n blocks w =
     let node = node_at w n in
     record w {
       free = if n == 0 then put_all w.free blocks else w.free;
-      nodes = if n == 0 then w.nodes else slice_set w.nodes n (record node { reserved = node.reserved ++ blocks });
+      nodes = if n == 0 then w.nodes else slice_set w.nodes n (record node { reserved = put_all node.reserved blocks });
     }
 
 -- a list without the first of a number
