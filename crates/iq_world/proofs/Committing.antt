@@ -9,14 +9,14 @@ use Rattle.iq_world.specs.declared.worlds.WorldNode.{WorldNode}
 use Rattle.iq_world.specs.declared.worlds.WorldRun.{WorldRun}
 use Rattle.iq_world.specs.declared.worlds.Reach.{Reach}
 use Rattle.iq_world.specs.declared.worlds.WorldStep.TheVariants.{Commit}
-use Rattle.iq_world.specs.World.{times, holds, without, node_at, latest_of, run_place, run_of, no_run}
+use Rattle.iq_world.specs.World.{times, holds, without, put_all, node_at, latest_of, run_place, run_of, no_run}
 use Rattle.iq_world.specs.Floors.{floor_of}
 use Rattle.iq_world.specs.Space.{roots, reach_of, dropped, dropped_after, waiting, times_free, times_loose, times_bound}
 use Rattle.iq_world.specs.Steps.{possible, moved, without_run, ended_with, committed, are_distinct, are_from}
 use Rattle.iq_world.specs.Sound.{RunFits, IsSound}
 use Rattle.iq_world.proofs.Times.{as_one_le, held_times, unheld_times, times-append, times-without_held, times-without_unheld}
 use Rattle.iq_world.proofs.Kept.{reach_of-other, reach_of-last, dropped_after-agree, numbers-more}
-use Rattle.iq_world.proofs.Drops.{dropped_after-more}
+use Rattle.iq_world.proofs.Drops.{dropped_next, dropped_after-more}
 use Rattle.iq_world.proofs.Possible.{both}
 use Rattle.iq_world.proofs.Counts.{node_here, node_each, home_each, home_length, free-sent_home, free-with_node, private-without_run}
 use Rattle.iq_world.proofs.Runs.{All-remove, count-remove}
@@ -57,7 +57,7 @@ committed_each P w s blocks h still home move i l =
     let n = (run_of w s).node in
     let c = latest_of w + 1 in
     let others = without (run_of w s).private blocks in
-    let xs = (node_at w n).reserved ++ others in
+    let xs = put_all (node_at w n).reserved others in
     let ended = ended_with w s others in
     let m = moved n c ended in
     let same : length ended.nodes ≡ length w.nodes = home_length w n (record (node_at w n) { reserved = xs }) in
@@ -76,7 +76,7 @@ committed_length w s blocks =
     let ended = ended_with w s (without (run_of w s).private blocks) in
     let m = moved n c ended in
     length-set m.nodes 0 (record (node_at m 0) { position = c }) ∙ length-set ended.nodes n (record (node_at ended n) { position = c })
-    ∙ home_length w n (record (node_at w n) { reserved = (node_at w n).reserved ++ without (run_of w s).private blocks })
+    ∙ home_length w n (record (node_at w n) { reserved = put_all (node_at w n).reserved (without (run_of w s).private blocks) })
 
 committed_latest : (w : World) (s : ℕ) (blocks : List ℕ) → 0 < length w.nodes → latest_of (committed w s blocks) ≡ latest_of w + 1
 committed_latest w s blocks some =
@@ -98,7 +98,7 @@ committed_free b w s blocks h =
     let first = record (node_at m 0) { position = c } in
     let node = record (node_at ended n) { position = c } in
     let there : n < length ended.nodes =
-    (let e = home_length w n (record (node_at w n) { reserved = (node_at w n).reserved ++ others }) in omega arith) in
+    (let e = home_length w n (record (node_at w n) { reserved = put_all (node_at w n).reserved others }) in omega arith) in
     let some : 0 < length m.nodes = (let e = length-set ended.nodes n node in omega arith) in
     free-with_node b m 0 first some refl ∙ free-with_node b ended n node there refl ∙ free-sent_home b (without_run s w) n others h
 
@@ -119,11 +119,11 @@ committed_bound b w s blocks g =
     let at : w.base + k ≡ latest_of w = omega arith in
     let more : latest_of v - w.base ≡ suc k = omega arith in
     let old : reach_of rs (latest_of w) ≡ reach_of w.reach (latest_of w) = others (latest_of w) made (omega arith) in
-    let new : dropped rs (w.base + k) ≡ without (reach_of w.reach (latest_of w)) blocks =
-    ap (dropped rs) at ∙ ap (λ (xs : List ℕ). without xs (reach_of rs c)) old ∙ ap (without (reach_of w.reach (latest_of w))) last in
+    let new : dropped rs (w.base + k + 1) ≡ without (reach_of w.reach (latest_of w)) blocks =
+    ap (λ (j : ℕ). dropped rs (j + 1)) at ∙ dropped_next rs (latest_of w) ∙ ap (λ (xs : List ℕ). without xs (reach_of rs c)) old ∙ ap (without (reach_of w.reach (latest_of w))) last in
     let waits : dropped_after rs w.base (latest_of v - w.base) ≡ waiting w ++ without (reach_of w.reach (latest_of w)) blocks =
     ap (dropped_after rs w.base) more ∙ dropped_after-more rs w.base k
-    ∙ ap (λ (xs : List ℕ). xs ++ dropped rs (w.base + k)) (dropped_after-agree rs w.reach w.base k others)
+    ∙ ap (λ (xs : List ℕ). xs ++ dropped rs (w.base + k + 1)) (dropped_after-agree rs w.reach w.base k others)
     ∙ ap (λ (xs : List ℕ). waiting w ++ xs) new in
     ap (λ (xs : List ℕ). times b xs + times b (dropped_after rs w.base (latest_of v - w.base))) (ap (reach_of rs) top ∙ last)
     ∙ ap (λ (n : ℕ). times b blocks + n) (ap (times b) waits ∙ times-append b (waiting w) (without (reach_of w.reach (latest_of w)) blocks))

@@ -1,9 +1,9 @@
 pub mod Drops
 pub mod Times
-pub mod Lows
 pub mod Kept
 pub mod Counts
 pub mod Possible
+pub mod Lows
 pub mod Rising
 pub mod Runs
 pub mod Stepping

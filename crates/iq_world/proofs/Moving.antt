@@ -1,19 +1,20 @@
 -- The steps that move, restart, exclude and include nodes, and those of reports, keep a world sound.
 use Rattle.std.proofs.Common.{◌≡◌, ℕ, ◌+◌, ◌==◌, ◌<◌, ◌≤◌, true, false, not, max, [], length, get_or, refl, sym, ap, ◌∙◌, subst, ⊎_elim, arith}
-use Rattle.std.specs.List.{All, count_by, filter, fold}
+use Rattle.std.specs.List.{All, count_by, filter}
 use Rattle.std.proofs.lemmas.List.{length-set}
 use Rattle.std.proofs.lemmas.List.Elements.{All-push, All-filter, All-weaker, All-get_or, filter_passes}
 use Rattle.std.proofs.lemmas.Bool.{eqb-false, ltb-true, ne_eqb, false≢true, cases_eq}
 use Rattle.std.proofs.lemmas.Bool.Decides.{eqb_tells}
+use Rattle.iq_floors.specs.Floors.{floor}
 use Rattle.iq_world.specs.declared.worlds.World.{World}
 use Rattle.iq_world.specs.declared.worlds.WorldNode.{WorldNode}
 use Rattle.iq_world.specs.declared.worlds.WorldRun.{WorldRun}
 use Rattle.iq_world.specs.declared.worlds.Report.{Report}
 use Rattle.iq_world.specs.declared.worlds.WorldStep.TheVariants.{Sync, Apply, Send, Lose, TakeReport, Restart, Exclude, Include}
-use Rattle.iq_world.specs.World.{node_at, latest_of, report_place, report_of, no_report}
-use Rattle.iq_world.specs.Floors.{floor_of, lower}
+use Rattle.iq_world.specs.World.{node_at, latest_of, report_place, report_of, no_report, runs_on}
+use Rattle.iq_world.specs.Floors.{floor_of, snapshots_on}
 use Rattle.iq_world.specs.Space.{times_free}
-use Rattle.iq_world.specs.Steps.{possible, with_node, moved, with_taken, runs_on, cleared, synced, applied, report_sent, report_lost, node_restarted, node_excluded, node_included}
+use Rattle.iq_world.specs.Steps.{possible, with_node, moved, with_taken, cleared, synced, applied, report_sent, report_lost, node_restarted, node_excluded, node_included}
 use Rattle.iq_world.specs.Sound.{ReportFits, RunFits, IsSound}
 use Rattle.iq_world.proofs.Times.{as_one}
 use Rattle.iq_world.proofs.Lows.{low_above}
@@ -244,7 +245,7 @@ good_include w n can g =
                 (λ (ne : i ≡ n → ⊥).
                 let same : node_at v i ≡ node_at w i = node_there w n i x ne in
                 let f = g.floors.nodes i li in
-                let low : floor_of v i ≡ floor_of w i = ap (λ (y : WorldNode). fold (lower i) y.position w.runs) same in
+                let low : floor_of v i ≡ floor_of w i = ap (λ (y : WorldNode). floor y.position (snapshots_on i w.runs)) same in
                 record {
                   made = subst (λ (y : WorldNode). y.position ≤ latest_of v) (sym same) (let m = f.made in omega arith);
                   taken = subst (λ (y : WorldNode). y.taken ≤ floor_of v i) (sym same) (let t = f.taken in omega arith);

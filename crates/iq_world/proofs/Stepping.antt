@@ -175,7 +175,7 @@ good_back w s kept can g =
     let r = runs_at w s tests.0 g in
     let n = (run_of w s).node in
     let back = drop kept (run_of w s).private in
-    let xs = (node_at w n).reserved ++ back in
+    let xs = put_all (node_at w n).reserved back in
     let run = record (run_of w s) { private = take kept (run_of w s).private } in
     good_moves w v
     (record {
@@ -208,7 +208,7 @@ good_end w s can g =
     let v = ended_with w s (run_of w s).private in
     let r = runs_at w s can g in
     let n = (run_of w s).node in
-    let xs = (node_at w n).reserved ++ (run_of w s).private in
+    let xs = put_all (node_at w n).reserved (run_of w s).private in
     good_moves w v
     (record {
       count = refl;

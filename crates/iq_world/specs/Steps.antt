@@ -7,7 +7,7 @@ use Rattle.iq_world.specs.declared.worlds.WorldRun.{WorldRun}
 use Rattle.iq_world.specs.declared.worlds.Reach.{Reach}
 use Rattle.iq_world.specs.declared.worlds.WorldStep.{WorldStep}
 use Rattle.iq_world.specs.declared.worlds.WorldStep.TheVariants.{Begin, Reserve, Take, Back, Commit, End, Sync, Apply, Send, Lose, TakeReport, Own, Restart, Exclude, Include}
-use Rattle.iq_world.specs.World.{times, holds, without, put_all, node_at, is_node, is_included, is_secondary, latest_of, run_place, is_running, run_of, report_place, is_sent, report_of}
+use Rattle.iq_world.specs.World.{times, holds, without, put_all, node_at, is_node, is_included, is_secondary, latest_of, run_place, is_running, run_of, report_place, is_sent, report_of, runs_on}
 use Rattle.iq_world.specs.Floors.{floor_of, horizon_of}
 use Rattle.iq_world.specs.Space.{reach_of, dropped_after}
 
@@ -39,7 +39,7 @@ sent_home n blocks w =
     let node = node_at w n in
     record w {
       free = if n == 0 then put_all w.free blocks else w.free;
-      nodes = if n == 0 then w.nodes else slice_set w.nodes n (record node { reserved = node.reserved ++ blocks });
+      nodes = if n == 0 then w.nodes else slice_set w.nodes n (record node { reserved = put_all node.reserved blocks });
     }
 
 -- a list without the first of a number
@@ -62,10 +62,6 @@ with_private s blocks w = record w { runs = slice_set w.runs (run_place w s) (re
 -- without a session's run
 abbrev pub without_run : ℕ → World → World
 without_run s w = record w { runs = remove w.runs (run_place w s) }
-
--- whether a run is on a node
-abbrev pub runs_on : ℕ → WorldRun → Bool
-runs_on n r = r.node == n
 
 -- the blocks in a node's reservation, and its runs' private ones
 abbrev pub held_by : World → ℕ → List ℕ

@@ -1,7 +1,7 @@
 //! Versions, reports and space, as plain lists of block numbers over every list of steps.
 //!
 //! Contracts see a `World` as the record of its lists, and a step as the change that `after` of specs/Steps names. Below
-//! stands `iq_base`; above stand the layers that keep the same world in counted form and are compared with it. Its one law:
+//! stand `iq_base` and `iq_floors`, whose words floors and the horizon are; above stand the layers that keep the same world in counted form and are compared with it. Its one law:
 //! from a sound world every list of steps leads to a sound world, and no block that a live snapshot reaches is free.
 #![tactic(auto)]
 
