@@ -1,6 +1,6 @@
 //! Scripts, and what is read of them.
-use crate::read_script;
 use iq_model::Script;
+use iq_script::{MOST_BYTES, read_script};
 use std::alloc::{AllocError, Global};
 use std::test::Fail;
 
@@ -54,7 +54,7 @@ fn numbers(alloc: Global, script: &Script) -> Result<String, AllocError> {
 }
 
 fn shown(alloc: Global, bytes: &[u8]) -> Result<String, AllocError> {
-    if bytes.len() > 16_777_216 {
+    if bytes.len() > MOST_BYTES {
         return String::from_str(alloc, "too long");
     }
     match read_script(alloc, bytes) {
@@ -108,5 +108,21 @@ fn the_65th_line_and_a_line_of_4097_bytes_are_faults(rt: HostRuntime) -> Result<
     let more = format!(in rt.alloc(); "-- {long}\n{long}\n{long} \n")?;
     let read = shown(rt.alloc(), more.as_bytes())?;
     assert_eq!(rt; read.as_str(), "ScriptFault { line: 3, cause: Unbuilt }");
+    Ok(())
+}
+
+#[test]
+fn a_script_of_64_lines_of_4096_bytes_is_read(rt: HostRuntime) -> Result<(), Fail> {
+    let mut text = String::new(rt.alloc());
+    for _ in 0..64 {
+        text.push_str("INSERT INTO t VALUES  (7)")?;
+        for _ in 1..1_018 {
+            text.push_str(",(7)")?;
+        }
+        text.push_str("   \n")?;
+    }
+    assert_eq!(rt; text.len(), 64 * 4_097);
+    let read = shown(rt.alloc(), text.as_bytes())?;
+    assert!(rt; read.as_str().ends_with(" 62 63 64"), "read as {read}");
     Ok(())
 }

@@ -1,5 +1,7 @@
 //! Texts and what they spell.
-use crate::{ParseFault, parse};
+use iq_ast::{Statement, Write};
+use iq_base::Value;
+use iq_parse::{ParseFault, parse};
 use std::alloc::{AllocError, Global};
 use std::test::Fail;
 
@@ -140,5 +142,27 @@ fn a_table_has_32_columns_and_a_text_4096_bytes_at_most(rt: HostRuntime) -> Resu
     assert!(rt; parse(rt.alloc(), long.as_bytes()).is_ok());
     long.push(' ')?;
     assert!(rt; parse(rt.alloc(), long.as_bytes()).is_err());
+    Ok(())
+}
+
+#[test]
+fn a_text_of_4096_bytes_of_tuples_is_read(rt: HostRuntime) -> Result<(), Fail> {
+    // 22 bytes, 1,018 times 4 bytes, and 2 spaces.
+    let mut text = String::from_str(rt.alloc(), "INSERT INTO t VALUES  ")?;
+    text.push_str("(7)")?;
+    for _ in 1..1_018 {
+        text.push_str(",(7)")?;
+    }
+    text.push_str("   ")?;
+    assert_eq!(rt; text.len(), 4_096);
+    match parse(rt.alloc(), text.as_bytes()) {
+        Ok(Statement::Write(Write::Insert { table: _, rows })) => {
+            assert_eq!(rt; rows.len(), 1_018);
+            for row in rows.as_slice() {
+                assert_eq!(rt; row.as_slice(), [Value::Int(7)].as_slice());
+            }
+        }
+        other => assert!(rt; false, "read as {other:?}"),
+    }
     Ok(())
 }
