@@ -10,8 +10,8 @@ use Rattle.iq_block_map.specs.Maps.{page_kind, is_address}
 use Rattle.iq_block_map.specs.Refs.{MayBe}
 use Rattle.iq_block_map.specs.Objects.{HoldsPage}
 use Rattle.iq_block_map.specs.Causes.{IsReadFault, IsWalkFault, IsEditFault, IsPutFault}
-use Rattle.iq_block_map.specs.declared.refs.MapFault.{MapFault}
-use Rattle.iq_block_map.specs.declared.refs.MapFault.TheVariants.{StoreFault, BadMap, NoSpace, NoMemory}
+use Rattle.iq_block_map.specs.declared.faults.MapFault.{MapFault}
+use Rattle.iq_block_map.specs.declared.faults.MapFault.TheVariants.{StoreFault, BadMap, NoSpace, NoMemory}
 
 all_at : (P : ℕ → Bool) (xs : List ℕ) (k : ℕ) → list_all P xs ≡ true → k < length xs → P (slice_index xs k) ≡ true
 all_at P [] k pass within = absurd (omega (arith, within))

@@ -6,7 +6,7 @@ use Rattle.std.proofs.lemmas.List.{get_or-take, get_or-drop, length-take, drop_a
 use Rattle.std.proofs.lemmas.Bool.{and_parts, eq-eqb, ne_eqb, eqb-true, cases_lt, cases_eq}
 use Rattle.iq_outside.specs.declared.device.Device.{Ghosts}
 use Rattle.iq_outside.specs.Devices.{block_of}
-use Rattle.iq_block_map.specs.declared.refs.Ref.{Ref}
+use Rattle.iq_base.specs.declared.refs.Ref.{Ref}
 use Rattle.iq_block_map.specs.Maps.{is_address}
 use Rattle.iq_block_map.specs.Refs.{MayBe}
 use Rattle.iq_block_map.specs.Objects.{leaf_count, used_in, map_at}

@@ -3,9 +3,9 @@ use Rattle.std.specs.Prelude.{◌≡◌, ◌⊎◌, ℕ, false, List, Ok, Err, O
 use Rattle.iq_outside.specs.Faults.{RoseWithin}
 use Rattle.iq_outside.specs.Devices.{block_of}
 use Rattle.iq_block_store.specs.Frames.{has_header}
-use Rattle.iq_block_map.specs.declared.refs.Ref.{Ref}
-use Rattle.iq_block_map.specs.declared.refs.MapFault.{MapFault}
-use Rattle.iq_block_map.specs.declared.refs.MapFault.TheVariants.{StoreFault, BadMap, NoSpace, NoMemory}
+use Rattle.iq_base.specs.declared.refs.Ref.{Ref}
+use Rattle.iq_block_map.specs.declared.faults.MapFault.{MapFault}
+use Rattle.iq_block_map.specs.declared.faults.MapFault.TheVariants.{StoreFault, BadMap, NoSpace, NoMemory}
 use Rattle.iq_block_map.specs.Maps.{page_kind}
 use Rattle.iq_block_map.specs.Objects.{address_of}
 

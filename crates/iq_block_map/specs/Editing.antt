@@ -1,7 +1,7 @@
 -- Objects that share what didn't change.
 use Rattle.std.specs.Prelude.{◌≡◌, ℕ, ◌+◌, ◌-◌, ◌*◌, ◌<◌, ◌≤◌, true, false, List, [], ◌∷◌, ◌++◌, length, take, drop, nat_eq, if◌then◌else◌, slice_index, slice_set, Ok, Err, Option, Some, Bool, suc, zero, nat_le, ◌||◌, ◌&&◌}
 use Rattle.std.specs.List.{All, fold}
-use Rattle.iq_block_map.specs.declared.refs.Ref.{Ref}
+use Rattle.iq_base.specs.declared.refs.Ref.{Ref}
 use Rattle.iq_block_map.specs.Maps.{is_address}
 use Rattle.iq_block_map.specs.Objects.{used_in, map_at, leaves_of, addresses_of, address_of, top_of, leaf_count}
 use Rattle.iq_block_map.specs.Writing.{holds}

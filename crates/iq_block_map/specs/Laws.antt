@@ -2,7 +2,7 @@
 use Rattle.std.specs.Prelude.{◌≡◌, ℕ, List, length}
 use Rattle.std.specs.List.{All}
 use Rattle.iq_outside.specs.Devices.{block_of}
-use Rattle.iq_block_map.specs.declared.refs.Ref.{Ref}
+use Rattle.iq_base.specs.declared.refs.Ref.{Ref}
 use Rattle.iq_block_map.specs.Objects.{leaves_of, addresses_of, blocks_of, pages_of}
 
 -- two lists of blocks are as long, and the same in these places

@@ -1,7 +1,7 @@
 -- Leaves and topmost maps, one at a time: what the calls between a remap and its blocks say of each.
 use Rattle.std.specs.Prelude.{◌≡◌, ◌≢◌, ◌⊎◌, ℕ, ◌-◌, ◌<◌, ◌≤◌, false, List, [], ◌∷◌, ◌++◌, length, take, drop, replicate, nat_eq, nat_lt, Bool, if◌then◌else◌, slice_index, slice_set, Result, Ok, Err, ◌+◌}
 use Rattle.std.specs.List.{All}
-use Rattle.iq_block_map.specs.declared.refs.Ref.{Ref}
+use Rattle.iq_base.specs.declared.refs.Ref.{Ref}
 use Rattle.iq_block_map.specs.Maps.{map_block}
 use Rattle.iq_block_map.specs.Objects.{leaf_count, used_in, map_at, listed}
 use Rattle.iq_block_map.specs.Refs.{MayBe}

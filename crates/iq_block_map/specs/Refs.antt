@@ -1,6 +1,6 @@
 -- What callers owe of references, and what maps hold.
 use Rattle.std.specs.Prelude.{◌≡◌, ℕ, ◌≤◌, ◌<◌, true, List, length, Option, Some}
-use Rattle.iq_block_map.specs.declared.refs.Ref.{Ref}
+use Rattle.iq_base.specs.declared.refs.Ref.{Ref}
 use Rattle.iq_block_map.specs.Maps.{are_places}
 
 -- a reference may stand in a store: at most 63,504 pages, and where it has any, its root is a block behind the roots

@@ -13,7 +13,8 @@ ghost use Rattle.std.specs.List.{prefix_len};
 use crate::maps::{MAP, Places, ROOM, payload_of};
 use crate::reading::{count_of, leaf_count, leaves_of, read_map, used_in};
 use crate::writing::put;
-use crate::{MapFault, Ref, Taker};
+use crate::{MapFault, Taker};
+use iq_base::Ref;
 use iq_outside::Device;
 
 /// A leaf of an object: its block, its first page, and how many pages it names.

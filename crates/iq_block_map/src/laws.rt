@@ -1,7 +1,7 @@
 //! Laws of objects, for layers above that keep references. Each is the contract of a function that does nothing.
 ghost use Rattle.std.specs.Prelude.{◌≡◌, ◌≤◌, ◌<◌, ℕ, false, List, Ok, slice_index};
 ghost use Rattle.std.specs.List.{All};
-ghost use Rattle.iq_block_map.specs.declared.refs.Ref.{Ref};
+ghost use Rattle.iq_base.specs.declared.refs.Ref.{Ref};
 ghost use Rattle.iq_block_map.specs.Objects.{blocks_of, addresses_of, address_of};
 ghost use Rattle.iq_block_map.specs.Writing.{holds};
 ghost use Rattle.iq_block_map.specs.Editing.{AreApart};

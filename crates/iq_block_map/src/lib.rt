@@ -6,22 +6,22 @@
 #![tactic(auto)]
 
 mod editing;
+mod faults;
 mod laws;
 mod maps;
 mod pages;
 mod reading;
-mod refs;
 mod taker;
 #[cfg(test)]
 mod tests;
 mod writing;
 
 pub use editing::remap;
+pub use faults::MapFault;
 pub use laws::{
     a_page_is_where_the_list_says, an_object_stands_on_what_it_reaches,
     what_is_not_reached_is_apart,
 };
 pub use pages::{push, with_page};
 pub use reading::{addresses, blocks, page};
-pub use refs::{MapFault, Ref};
 pub use taker::Taker;

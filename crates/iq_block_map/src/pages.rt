@@ -10,7 +10,8 @@ ghost use Rattle.iq_block_map.specs.Causes.{IsEditFault};
 use crate::editing::remap;
 use crate::maps::PAGE;
 use crate::writing::put;
-use crate::{MapFault, Ref, Taker};
+use crate::{MapFault, Taker};
+use iq_base::Ref;
 use iq_block_store::Page;
 use iq_outside::Device;
 

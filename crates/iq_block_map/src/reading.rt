@@ -6,11 +6,12 @@ ghost use Rattle.iq_block_store.specs.Looks.{HasLooked};
 ghost use Rattle.iq_block_map.specs.Maps.{page_kind, places, is_map, is_address};
 ghost use Rattle.iq_block_map.specs.Objects.{leaf_count, used_in, map_at, leaves_of, addresses_of, blocks_of, walked, front, IsPageAt, HoldsPage};
 ghost use Rattle.iq_block_map.specs.Causes.{IsStoreFault, IsReadFault, IsWalkFault, IsBadOnWay};
-ghost use Rattle.iq_block_map.specs.declared.refs.MapFault.TheVariants.{NoMemory};
+ghost use Rattle.iq_block_map.specs.declared.faults.MapFault.TheVariants.{NoMemory};
 ghost use Rattle.iq_block_map.specs.Refs.{IsIn, MayBe};
 
+use crate::MapFault;
 use crate::maps::{MAP, PAGE, Places, ROOM, is_map, places_of};
-use crate::{MapFault, Ref};
+use iq_base::Ref;
 use iq_block_store::{BlockFault, Page, read};
 use iq_outside::Device;
 use std::alloc::Global;

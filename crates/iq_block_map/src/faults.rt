@@ -1,14 +1,7 @@
-//! What names an object, and why its pages aren't found.
+//! Why an object of pages wasn't read or written.
 use std::alloc::{AllocError, AllocFailed};
 use std::error::Error;
 use std::fmt;
-
-/// An object of pages: the block of its topmost map, and how many pages it has. Without pages the root is 0.
-#[derive(Clone, Copy, Debug, PartialEq, Eq)]
-pub struct Ref {
-    pub root: u32,
-    pub pages: u32,
-}
 
 /// Why an object wasn't read or written.
 #[derive(Clone, Copy, Debug, PartialEq, Eq)]
@@ -43,7 +36,7 @@ impl Error for MapFault {}
 
 impl From<AllocError> for MapFault {
     ghost use Rattle.std.specs.Prelude.{◌≡◌};
-    ghost use Rattle.iq_block_map.specs.declared.refs.MapFault.TheVariants as faults;
+    ghost use Rattle.iq_block_map.specs.declared.faults.MapFault.TheVariants as faults;
 
     ghost from_gives = { λ _ e. e ≡ faults.NoMemory };
 
@@ -54,7 +47,7 @@ impl From<AllocError> for MapFault {
 
 impl<T: Drop> From<AllocFailed<T>> for MapFault {
     ghost use Rattle.std.specs.Prelude.{◌≡◌};
-    ghost use Rattle.iq_block_map.specs.declared.refs.MapFault.TheVariants as faults;
+    ghost use Rattle.iq_block_map.specs.declared.faults.MapFault.TheVariants as faults;
 
     ghost from_gives = { λ _ e. e ≡ faults.NoMemory };
 
