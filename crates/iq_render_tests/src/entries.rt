@@ -1,22 +1,7 @@
 //! Entries.
-ghost use Rattle.iq_history.specs.Placed.{IsPlaced};
-
-use super::{CENSUS, name};
-use crate::entries::push_entry;
+use crate::texts::{CENSUS, name, records};
 use iq_base::{Locks, Refusal};
 use iq_history::Entry;
-use std::process::Abort;
-
-/// An entry of that run.
-fn records(rt: &(impl Abort + AllocGlobal), entry: Entry, want: &str)
-    requires { IsPlaced 3 2 entry }
-{
-    let nodes = [name(rt, "c"), name(rt, "w"), name(rt, "r")];
-    let sessions = [name(rt, "a"), name(rt, "b")];
-    let mut text = String::new(rt.alloc());
-    push_entry(&mut text, &nodes, &sessions, &entry).expect(rt, "memory");
-    assert_eq!(rt; text.as_str(), want);
-}
 
 #[test]
 fn each_entry_prints_its_word_place_line_and_numbers(rt: HostRuntime) {

@@ -1,5 +1,5 @@
 //! Replies and their rows.
-use super::{CENSUS, name, says};
+use crate::texts::{CENSUS, name, says};
 use iq_base::{Letters, Listed, Refusal, Text};
 use iq_model::{Answer, Freed, NodeVersion, Out, Said, Sent, Versions};
 use std::test::Fail;

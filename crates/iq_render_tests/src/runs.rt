@@ -3,11 +3,11 @@ ghost use Rattle.std.specs.Prelude.{◌≡◌, length};
 ghost use Rattle.iq_history.specs.Placed.{IsPlaced};
 ghost use Rattle.iq_render.specs.Placed.{ArePlacedReplies, IsPlacedSaid};
 
-use super::name;
-use crate::{history_part, replies_part, summary, transcript};
+use crate::texts::name;
 use iq_base::{Census, Listed, Locks, NoMemory};
 use iq_history::{Entry, History};
 use iq_model::{Answer, Out, Reply, Said};
+use iq_render::{history_part, replies_part, summary, transcript};
 use std::process::Abort;
 use std::test::Fail;
 

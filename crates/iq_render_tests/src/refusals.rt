@@ -1,7 +1,7 @@
 //! Refusals.
 ghost use Rattle.iq_history.specs.Placed.{IsPlacedRefusal};
 
-use super::{CENSUS, name, says};
+use crate::texts::{CENSUS, name, says};
 use iq_base::{FieldCause, Refusal};
 use iq_model::Said;
 use std::process::Abort;
