@@ -1,3 +1,4 @@
 pub mod Cells
 pub mod Locks
 pub mod Limits
+pub mod Shorts

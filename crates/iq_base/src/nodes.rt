@@ -1,5 +1,5 @@
 //! Declared nodes and sessions.
-use crate::names::Name;
+use crate::texts::Name;
 
 /// What a node may do. The coordinator keeps the free list and the version log, a writer writes, a reader only reads
 /// (Using Sybase IQ Multiplex).

@@ -1,7 +1,7 @@
 -- Legal histories: which entry is possible in a state, what it changes, and which replies a history gives.
 use Rattle.std.specs.Prelude.{◌≡◌, ◌≢◌, ◌⊎◌, ℕ, ◌+◌, List, [], ◌∷◌, ◌++◌, Option, Some, None, fold, drop, length, IsSomeAnd}
 use Rattle.std.specs.List.{slice_get}
-use Rattle.iq_base.specs.declared.names.Name.{Name}
+use Rattle.iq_base.specs.Shorts.{Name}
 use Rattle.iq_base.specs.declared.refusals.Refusal.{Refusal}
 use Rattle.iq_base.specs.declared.refusals.Refusal.TheVariants as refusals
 use Rattle.iq_model.specs.declared.answers.Answer.TheVariants as answers

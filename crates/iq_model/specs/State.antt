@@ -2,7 +2,7 @@
 use Rattle.std.specs.Prelude.{ℕ, ◌+◌, Bool, true, false, zero, suc, List, [], ◌∷◌, ◌++◌, Option, Some, None, nat_eq, nat_lt, map, filter, find, fold, if◌then◌else◌, unwrap_or}
 use Rattle.std.specs.List.{slice_get, list_any}
 use Rattle.std.specs.Option.{option_or}
-use Rattle.iq_base.specs.declared.names.Name.{Name}
+use Rattle.iq_base.specs.Shorts.{Name}
 use Rattle.iq_base.specs.declared.nodes.NodeKind.{NodeKind}
 use Rattle.iq_base.specs.declared.nodes.NodeKind.TheVariants as node_kinds
 use Rattle.iq_base.specs.declared.nodes.NodeSpec.{NodeSpec}

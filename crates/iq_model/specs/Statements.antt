@@ -2,7 +2,7 @@
 use Rattle.std.specs.Prelude.{ℕ, ℤ, pos, negsuc, ◌+◌, Bool, true, false, List, [], ◌∷◌, Option, Some, None, nat_lt, nat_le, nat_eq, map, length, if◌then◌else◌, is_none, is_some}
 use Rattle.std.specs.List.{position, slice_get}
 use Rattle.std.specs.Option.{option_or}
-use Rattle.iq_base.specs.declared.names.Name.{Name}
+use Rattle.iq_base.specs.Shorts.{Name}
 use Rattle.iq_base.specs.declared.values.Value.{Value}
 use Rattle.iq_base.specs.declared.values.Value.TheVariants as values
 use Rattle.iq_base.specs.declared.values.Kind.{Kind}

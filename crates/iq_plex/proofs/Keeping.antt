@@ -1,6 +1,6 @@
 -- Each entry keeps what the shared state keeps.
 use Rattle.std.proofs.Common.{◌≡◌, ℕ, ◌+◌, map, ◌<◌, ◌^◌, List, [], ◌∷◌, ◌++◌, length, refl, sym, ◌∙◌, ap, subst, arith, Some, None, length-append}
-use Rattle.iq_base.specs.declared.names.Name.{Name}
+use Rattle.iq_base.specs.Shorts.{Name}
 use Rattle.iq_base.specs.declared.nodes.NodeKind.TheVariants.{Coordinator}
 use Rattle.iq_base.specs.declared.nodes.SessionSpec.{SessionSpec}
 use Rattle.iq_base.specs.declared.refusals.Refusal.{Refusal}
