@@ -20,7 +20,7 @@ use Rattle.iq_world.proofs.Drops.{dropped_next, dropped_after-more}
 use Rattle.iq_world.proofs.Possible.{both}
 use Rattle.iq_world.proofs.Counts.{node_here, node_each, home_each, home_length, free-sent_home, free-with_node, private-without_run}
 use Rattle.iq_world.proofs.Runs.{All-remove, count-remove}
-use Rattle.iq_world.proofs.Rising.{runs_low, floors_rise, bag_low, NodeRises, rises_still, rises_reserved, runs_refit, reports_refit, versions_hold, Good}
+use Rattle.iq_world.proofs.Rising.{runs_low, Rises, floors_rise, never_falls, bag_low, NodeRises, rises_still, rises_reserved, runs_refit, reports_refit, versions_hold, Good}
 use Rattle.iq_world.proofs.Stepping.{runs_at}
 
 -- a test that every number of a list passes, one that the list holds passes
@@ -155,7 +155,17 @@ good_commit w s blocks can g =
     committed_each (NodeRises w c) w s blocks r.fits.known
     (λ i l. rises_still w c i (omega arith) (g.floors.nodes i l))
     (λ xs ne. rises_reserved w c n xs (omega arith) r.fits.not_excluded (g.floors.nodes n r.fits.known))
-    (λ i x k. record { position = (let a = k.position in let b = k.made in omega arith); made = omega arith; taken = k.taken; included = k.included; idle = k.idle }) in
+    (λ i x k. record { position = (let a = k.position in let b = k.made in omega arith); made = omega arith; raised = k.raised; taken = k.taken; included = k.included; idle = k.idle }) in
+    let up : Rises w v =
+    record {
+      nodes = same;
+      base = refl;
+      top = omega arith;
+      node = λ i h. inl (subst (λ (m : ℕ). NodeRises w m i (node_at v i)) (sym top) (rises i h));
+      runs = runs_refit w v v.runs same (λ i l. (let k = known i l in (k.0, k.2))) (All-remove (RunFits w) w.runs (run_place w s) g.floors.runs);
+      lows = All-remove (λ (x : WorldRun). floor_of w x.node ≤ x.snapshot) w.runs (run_place w s) (runs_low w);
+      reports = bag_low w g;
+    } in
     record {
       sound =
           record {
@@ -192,17 +202,9 @@ good_commit w s blocks can g =
                 let moved : times b roots + times_loose v b + times_bound v b ≡ times b roots + times_loose w b + times_bound w b = omega arith in
                 moved ∙ whole;
             versions = versions_hold v;
-            floors =
-                floors_rise w v
-                (record {
-                  nodes = same;
-                  base = refl;
-                  node = λ i h. subst (λ (m : ℕ). NodeRises w m i (node_at v i)) (sym top) (rises i h);
-                  runs = runs_refit w v v.runs same (λ i l. (let k = known i l in (k.0, k.2))) (All-remove (RunFits w) w.runs (run_place w s) g.floors.runs);
-                  lows = All-remove (λ (x : WorldRun). floor_of w x.node ≤ x.snapshot) w.runs (run_place w s) (runs_low w);
-                  reports = bag_low w g;
-                })
-                g.floors;
+            floors = floors_rise w v up g;
           };
       held = λ b. (let free = committed_free b w s blocks r.fits.known in omega arith);
+      rises = never_falls w v up g;
+      reach = λ j low kept most. reach_of-other w.reach (record { commit = c; blocks = blocks }) j (λ (e : c ≡ j). absurd (omega arith));
     }

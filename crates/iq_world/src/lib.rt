@@ -21,8 +21,9 @@ mod worlds;
 
 pub use fold::{after, world_law};
 pub use laws::{
-    a_step_keeps_a_world_sound, a_step_spares_what_is_live, all_steps_keep_a_world_sound,
-    an_opening_world_is_sound, the_places_fill_the_store,
+    a_dropped_block_is_freed_in_time, a_step_keeps_a_world_sound, a_step_spares_what_is_live,
+    all_steps_keep_a_world_sound, an_opening_world_is_sound, nothing_falls,
+    the_horizon_is_the_latest_that_all_are_past, the_places_fill_the_store, what_is_live_is_kept,
 };
 pub use openings::opening;
 pub use worlds::{
