@@ -10,6 +10,7 @@ use Rattle.iq_world.specs.World.{node_at, no_node, run_of, report_of}
 use Rattle.iq_world.specs.Steps.{possible, change, after, after_all, begun, reserving, taking, backed, committed, ended_with, synced, applied, report_sent, report_lost, with_taken, report_taken, node_restarted, node_excluded, node_included}
 use Rattle.iq_world.specs.Sound.{IsSound}
 use Rattle.iq_world.specs.Laws.{IsKept, KeepsLive, Reclaims, ReclaimsAt, is_report, WaitsSince, FreesInTime, NotYetPast, IsFreedInTime, NeverFalls, StepLaw, EachStep}
+use Rattle.iq_world.specs.Makes.{AllPossible, Makes}
 use Rattle.iq_world.proofs.Stepping.{good_begin, good_reserve, good_take, good_back, good_end}
 use Rattle.iq_world.proofs.Moving.{good_sync, good_apply, good_send, good_lose, good_restart, good_exclude, good_include}
 use Rattle.iq_world.proofs.Reclaiming.{good_own, good_report_taken, reclaims}
@@ -53,6 +54,8 @@ reclaims_taken w k =
     record {
       base = r.base;
       free = r.free;
+      count = r.count;
+      reach = r.reach;
       reserved =
           r.reserved
           ∙ flat_map-set (λ (x : WorldNode). x.reserved) w.nodes n (record (node_at w n) { taken = max (node_at w n).taken (report_of w k).floor }) no_node refl;
@@ -204,3 +207,30 @@ never_falls_all w (step ∷ steps) g =
       horizon = (let k = more.horizon in omega arith);
       base = (let k = more.base in omega arith);
     }
+
+-- steps that are made: none, one, and some after others
+pub makes_none : (w : World) → Makes w [] w
+makes_none w = record { can = tt; is = refl }
+
+pub makes_one : (old new : World) (step : WorldStep) → possible old step ≡ true → new ≡ change old step → Makes old (step ∷ []) new
+makes_one old new step can e =
+    record { can = (can, tt); is = e ∙ sym (ap (λ (t : Bool). cond t (change old step) old) can) }
+
+all_then : (xs ys : List WorldStep) (w : World) → AllPossible w xs → AllPossible (after_all w xs) ys → AllPossible w (xs ++ ys)
+all_then [] ys w first second = second
+all_then (x ∷ xs) ys w first second = (first.0, all_then xs ys (after w x) first.1 second)
+
+after_then : (xs ys : List WorldStep) (w : World) → after_all w (xs ++ ys) ≡ after_all (after_all w xs) ys
+after_then [] ys w = refl
+after_then (x ∷ xs) ys w = after_then xs ys (after w x)
+
+pub makes_then : (u v w : World) (xs ys : List WorldStep) → Makes u xs v → Makes v ys w → Makes u (xs ++ ys) w
+makes_then u v w xs ys first second =
+    record {
+      can = all_then xs ys u first.can (subst (λ (t : World). AllPossible t ys) first.is second.can);
+      is = second.is ∙ ap (λ (t : World). after_all t ys) first.is ∙ sym (after_then xs ys u);
+    }
+
+-- what they make of a sound world is sound
+pub makes_sound : (old new : World) (steps : List WorldStep) → IsSound old → Makes old steps new → IsSound new
+makes_sound old new steps g m = subst IsSound (sym m.is) (sound_all old steps g)

@@ -15,3 +15,4 @@ pub mod Waiting
 pub mod Each
 pub mod Sizes
 pub mod Opened
+pub mod PlainLaws

@@ -11,7 +11,7 @@ use Rattle.iq_world.specs.Steps.{possible, with_taken, reclaimed_to, reclaimed, 
 use Rattle.iq_world.specs.Sound.{NodeFits, IsSound}
 use Rattle.iq_world.specs.Laws.{Reclaims, NeverFalls, KeepsReach}
 use Rattle.iq_world.proofs.Counts.{free-with_node}
-use Rattle.iq_world.proofs.Times.{times-append, times-put_all}
+use Rattle.iq_world.proofs.Times.{times-append, times-put_all, length-put_all}
 use Rattle.iq_world.proofs.Lows.{low_le, horizon_le}
 use Rattle.iq_world.proofs.Past.{horizon_taken}
 use Rattle.iq_world.proofs.Kept.{reach_of-kept, dropped_after-agree, commits-kept}
@@ -99,6 +99,8 @@ reclaims w =
     record {
       base = refl;
       free = λ b. times-put_all b w.free (dropped_after w.reach w.base (max w.base (horizon_of w) - w.base));
+      count = length-put_all w.free (dropped_after w.reach w.base (max w.base (horizon_of w) - w.base));
+      reach = refl;
       reserved = refl;
       private = refl;
     }

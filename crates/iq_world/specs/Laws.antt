@@ -1,10 +1,11 @@
 -- What every step keeps: which blocks it takes and frees, and over which lists of steps that holds.
-use Rattle.std.specs.Prelude.{◌≡◌, ℕ, ◌+◌, ◌-◌, ◌<◌, ◌≤◌, Bool, true, false, max, List, [], ◌∷◌, length}
-use Rattle.std.specs.List.{All}
+use Rattle.std.specs.Prelude.{◌≡◌, ℕ, ◌+◌, ◌-◌, ◌<◌, ◌≤◌, Bool, true, false, nat_le, max, List, [], ◌∷◌, ◌++◌, length}
+use Rattle.std.specs.List.{All, filter}
 use Rattle.iq_world.specs.declared.worlds.World.{World}
+use Rattle.iq_world.specs.declared.worlds.Reach.{Reach}
 use Rattle.iq_world.specs.declared.worlds.WorldStep.{WorldStep}
 use Rattle.iq_world.specs.declared.worlds.WorldStep.TheVariants.{Begin, Reserve, Take, Back, Commit, End, Sync, Apply, Send, Lose, TakeReport, Own, Restart, Exclude, Include}
-use Rattle.iq_world.specs.World.{times, node_at, latest_of}
+use Rattle.iq_world.specs.World.{times, without, node_at, latest_of}
 use Rattle.iq_world.specs.Floors.{floor_of, horizon_of, IsPast, live}
 use Rattle.iq_world.specs.Space.{roots, reach_of, dropped, dropped_after, waiting, all_reserved, all_private, times_free, times_loose}
 use Rattle.iq_world.specs.Steps.{possible, after, after_all}
@@ -31,10 +32,12 @@ pub record Spares (old new : World) : Type 0 where
   pub kept : All (IsKept new) (live new)
 
 -- from one world to the next exactly the blocks go to the free list that were dropped at the commits after the old base and up
--- to the horizon, which is the new base where it is past the old one
+-- to the horizon, which is the new base where it is past the old one; the commits from there on are kept, and no others
 pub record Reclaims (old new : World) : Type 0 where
   pub base : new.base ≡ max old.base (horizon_of new)
   pub free : (b : ℕ) → times b new.free ≡ times b old.free + times b (dropped_after old.reach old.base (new.base - old.base))
+  pub count : length new.free ≡ length old.free + length (dropped_after old.reach old.base (new.base - old.base))
+  pub reach : new.reach ≡ filter (λ (r : Reach). nat_le new.base r.commit) old.reach
   pub reserved : all_reserved new ≡ all_reserved old
   pub private : all_private new ≡ all_private old
 
@@ -99,6 +102,16 @@ pub record NeverFalls (old new : World) : Type 0 where
 -- a commit that both worlds keep reaches what it reached
 abbrev pub KeepsReach : World → World → Type 0
 KeepsReach old new = (c : ℕ) → old.base ≤ c → new.base ≤ c → c ≤ latest_of old → reach_of new.reach c ≡ reach_of old.reach c
+
+-- from one world to the next a commit was made that reaches these blocks: it is the latest, it drops what the one before it reached
+-- and it doesn't, and those are the only blocks that begin to wait
+pub record Commits (old : World) (blocks : List ℕ) (new : World) : Type 0 where
+  pub latest : latest_of new ≡ latest_of old + 1
+  pub base : new.base ≡ old.base
+  pub reach : reach_of new.reach (latest_of new) ≡ blocks
+  pub drops : dropped new.reach (latest_of new) ≡ without (reach_of old.reach (latest_of old)) blocks
+  pub others : (c : ℕ) → old.base < c → c ≤ latest_of old → dropped new.reach c ≡ dropped old.reach c
+  pub waits : waiting new ≡ waiting old ++ without (reach_of old.reach (latest_of old)) blocks
 
 -- a step spares what is live, reclaims where it is one that does, frees in time, lets nothing fall, and changes no kept commit
 pub record StepLaw (w : World) (step : WorldStep) : Type 0 where

@@ -1,13 +1,16 @@
 //! Laws of worlds, for layers above that keep the same world in another form. Each is the contract of a function that does
 //! nothing.
-ghost use Rattle.std.specs.Prelude.{◌≡◌, ℕ, ◌≤◌, ◌↔◌, List};
+ghost use Rattle.std.specs.Prelude.{◌≡◌, ℕ, ◌≤◌, ◌↔◌, true, List, [], ◌∷◌, ◌++◌};
 ghost use Rattle.iq_world.specs.declared.worlds.World.{World};
 ghost use Rattle.iq_world.specs.declared.worlds.WorldStep.{WorldStep};
+ghost use Rattle.iq_world.specs.declared.worlds.WorldStep.TheVariants.{Commit};
 ghost use Rattle.iq_world.specs.Floors.{horizon_of, IsPast};
 ghost use Rattle.iq_world.specs.Space.{times_loose};
-ghost use Rattle.iq_world.specs.Steps.{after, after_all};
+ghost use Rattle.iq_world.specs.Steps.{possible, change, after, after_all};
 ghost use Rattle.iq_world.specs.Sound.{IsSound};
-ghost use Rattle.iq_world.specs.Laws.{KeepsLive, WaitsSince, IsFreedInTime, NeverFalls, StepLaw, EachStep, FillsTheStore};
+ghost use Rattle.iq_world.specs.Laws.{KeepsLive, WaitsSince, IsFreedInTime, NeverFalls, Commits, StepLaw, EachStep, FillsTheStore};
+ghost use Rattle.iq_world.specs.Makes.{Makes};
+ghost use Rattle.iq_world.specs.Plain.{CanStep};
 ghost use Rattle.iq_world.specs.Opening.{opening_world, CanOpen};
 
 /// Every step leaves a sound world sound.
@@ -49,6 +52,28 @@ pub fn a_step_spares_what_is_live()
 pub fn all_steps_keep_a_world_sound()
     ensures sound { (w : World) (steps : List WorldStep) → IsSound w → IsSound (after_all w steps) }
     ensures each { (w : World) (steps : List WorldStep) → IsSound w → EachStep w steps }
+{}
+
+/// A step is possible exactly where its plain facts hold.
+pub fn a_step_is_possible_where_it_can_be()
+    ensures { (w : World) (step : WorldStep) → (possible w step ≡ true) ↔ CanStep w step }
+{}
+
+/// A commit drops what the one before it reached and it doesn't, and nothing else begins to wait.
+pub fn what_a_commit_drops_waits()
+    ensures { (w : World) (s : ℕ) (bs : List ℕ) → IsSound w → Commits w bs (change w (Commit s bs)) }
+{}
+
+/// Steps that are made, for calls above that say which they make: none, a possible one, and some after others; what they make
+/// of a sound world is sound.
+pub fn steps_are_made()
+    ensures none { (w : World) → Makes w [] w }
+    ensures one { (old new : World) (step : WorldStep) → possible old step ≡ true
+        → new ≡ change old step → Makes old (step ∷ []) new }
+    ensures more { (old mid new : World) (steps others : List WorldStep) → Makes old steps mid
+        → Makes mid others new → Makes old (steps ++ others) new }
+    ensures sound { (old new : World) (steps : List WorldStep) → IsSound old
+        → Makes old steps new → IsSound new }
 {}
 
 /// The blocks of a sound world fill its store: the sizes of its places and the four root blocks are the count of blocks.
