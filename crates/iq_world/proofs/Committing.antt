@@ -146,6 +146,7 @@ committed_bound b w s blocks g =
     ∙ ap (λ (n : ℕ). times b blocks + n) (ap (times b) made.waits ∙ times-append b (waiting w) (without (reach_of w.reach (latest_of w)) blocks))
 
 pub good_commit : (w : World) (s : ℕ) (blocks : List ℕ) → possible w (Commit s blocks) ≡ true → IsSound w → Good w (committed w s blocks)
+unfolding possible
 good_commit w s blocks can g =
     let v = committed w s blocks in
     let c = latest_of w + 1 in

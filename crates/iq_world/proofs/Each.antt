@@ -24,6 +24,7 @@ good_if w v true good g = good refl
 good_if w v false good g = good_same w g
 
 pub good_step : (w : World) (step : WorldStep) → IsSound w → Good w (after w step)
+unfolding possible change after
 good_step w (Begin s n) g = good_if w _ (possible w (Begin s n)) (λ can. good_begin w s n can g) g
 good_step w (Reserve n) g = good_if w _ (possible w (Reserve n)) (λ can. good_reserve w n can g) g
 good_step w (Take s b) g = good_if w _ (possible w (Take s b)) (λ can. good_take w s b can g) g
@@ -63,6 +64,7 @@ reclaims_taken w k =
     }
 
 reclaims_at : (w : World) (step : WorldStep) → ReclaimsAt w step
+unfolding possible change after
 reclaims_at w (TakeReport k) = λ can. subst (λ (t : Bool). Reclaims w (cond t (report_taken w k) w)) (sym can) (reclaims_taken w k)
 reclaims_at w Own = reclaims w
 reclaims_at w (Begin s n) = tt
@@ -85,6 +87,7 @@ same_if w v true e = e
 same_if w v false e = refl
 
 base_kept : (w : World) (step : WorldStep) → is_report w step ≡ false → (after w step).base ≡ w.base
+unfolding possible change after
 base_kept w (Begin s n) e = same_if w (begun w s n) (possible w (Begin s n)) refl
 base_kept w (Reserve n) e = same_if w (reserving w n) (possible w (Reserve n)) refl
 base_kept w (Take s b) e = same_if w (taking w s b) (possible w (Take s b)) refl
@@ -104,7 +107,7 @@ base_kept w (Include n) e = same_if w (node_included w n) (possible w (Include n
 -- a report reclaims
 report_reclaims : (w : World) (step : WorldStep) → is_report w step ≡ true → Reclaims w (after w step)
 report_reclaims w (TakeReport k) e = reclaims_at w (TakeReport k) e
-report_reclaims w Own e = reclaims w
+report_reclaims w Own e = reclaims_at w Own
 report_reclaims w (Begin s n) e = absurd (false≢true e)
 report_reclaims w (Reserve n) e = absurd (false≢true e)
 report_reclaims w (Take s b) e = absurd (false≢true e)
@@ -168,6 +171,7 @@ sound_all w (step ∷ steps) g = sound_all (after w step) steps (good_step w ste
 
 -- what a possible step makes of a sound world is sound
 pub changed_sound : (w v : World) (step : WorldStep) → IsSound w → possible w step ≡ true → v ≡ change w step → IsSound v
+unfolding possible change after
 changed_sound w v step g can e =
     subst IsSound (sym e) (subst (λ (t : Bool). IsSound (cond t (change w step) w)) can (good_step w step g).sound)
 
@@ -213,6 +217,7 @@ pub makes_none : (w : World) → Makes w [] w
 makes_none w = record { can = tt; is = refl }
 
 pub makes_one : (old new : World) (step : WorldStep) → possible old step ≡ true → new ≡ change old step → Makes old (step ∷ []) new
+unfolding possible change after
 makes_one old new step can e =
     record { can = (can, tt); is = e ∙ sym (ap (λ (t : Bool). cond t (change old step) old) can) }
 

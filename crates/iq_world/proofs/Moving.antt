@@ -46,11 +46,13 @@ good_moved w n c h e up made first g =
     g
 
 pub good_sync : (w : World) (n : ℕ) → possible w (Sync n) ≡ true → IsSound w → Good w (synced w n)
+unfolding possible
 good_sync w n can g =
     let at = included_is w n can in
     good_moved w n (latest_of w) at.0 at.1 (g.floors.nodes n at.0).made (omega arith) (λ _. refl) g
 
 pub good_apply : (w : World) (n : ℕ) → possible w (Apply n) ≡ true → IsSound w → Good w (applied w n)
+unfolding possible
 good_apply w n can g =
     let tests = both can in
     let at = included_is w n tests.0 in
@@ -60,6 +62,7 @@ good_apply w n can g =
 
 -- a report in the bag is of a secondary of the world, and not above its floor
 pub sent_is : (w : World) (k : ℕ) → possible w (TakeReport k) ≡ true → IsSound w → ReportFits w (report_of w k) × ((report_of w k).floor ≤ floor_of w (report_of w k).node)
+unfolding possible
 sent_is w k can g =
     let at = ltb-true (report_place w k) (length w.bag) can in (
       All-get_or (ReportFits w) w.bag (report_place w k) no_report at g.form.reports,
@@ -131,18 +134,21 @@ good_cleared w n x p h up made taken included none g =
     g
 
 pub good_restart : (w : World) (n : ℕ) → possible w (Restart n) ≡ true → IsSound w → Good w (node_restarted w n)
+unfolding possible
 good_restart w n can g =
     let at = secondary_is w n (both can).0 in
     good_cleared w n (record (node_at w n) { position = latest_of w; incarnation = (node_at w n).incarnation + 1; reserved = [] }) at.0 at.1
     (g.floors.nodes n at.1).made (omega arith) refl (λ e. e) refl g
 
 pub good_exclude : (w : World) (n : ℕ) → possible w (Exclude n) ≡ true → IsSound w → Good w (node_excluded w n)
+unfolding possible
 good_exclude w n can g =
     let at = secondary_is w n (both can).0 in
     good_cleared w n (record (node_at w n) { incarnation = (node_at w n).incarnation + 1; excluded = true; reserved = [] }) at.0 at.1
     (omega arith) (g.floors.nodes n at.1).made refl (λ e. absurd (false≢true (sym e))) refl g
 
 pub good_include : (w : World) (n : ℕ) → possible w (Include n) ≡ true → IsSound w → Good w (node_included w n)
+unfolding possible
 good_include w n can g =
     let x = record (node_at w n) { position = latest_of w; taken = latest_of w; excluded = false } in
     let tests = both can in
@@ -162,6 +168,7 @@ good_include w n can g =
     g
 
 pub good_send : (w : World) (n : ℕ) → possible w (Send n) ≡ true → IsSound w → Good w (report_sent w n)
+unfolding possible
 good_send w n can g =
     let v = report_sent w n in
     let at = secondary_is w n (both can).0 in
@@ -190,6 +197,7 @@ good_send w n can g =
     g
 
 pub good_lose : (w : World) (k : ℕ) → possible w (Lose k) ≡ true → IsSound w → Good w (report_lost w k)
+unfolding possible
 good_lose w k can g =
     let v = report_lost w k in
     let at = ltb-true (report_place w k) (length w.bag) can in

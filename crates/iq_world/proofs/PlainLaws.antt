@@ -85,6 +85,7 @@ can_secondary : (w : World) (n : ℕ) → IsSecondary w n → is_secondary w n �
 can_secondary w n h = two (lt-ltb 0 n h.beside) (two (lt-ltb n (length w.nodes) h.known) (ap not h.included))
 
 pub possible_plain : (w : World) (step : WorldStep) → possible w step ≡ true → CanStep w step
+unfolding possible
 possible_plain w (Begin s n) h = let t = both h in (not_true t.0, included_can w n t.1)
 possible_plain w (Reserve n) h =
     let t = both h in
@@ -114,6 +115,7 @@ possible_plain w (Exclude n) h = let t = both h in (secondary_can w n t.0, ltb-t
 possible_plain w (Include n) h = let t = both h in (ltb-true n (length w.nodes) t.0, t.1)
 
 pub plain_possible : (w : World) (step : WorldStep) → CanStep w step → possible w step ≡ true
+unfolding possible
 plain_possible w (Begin s n) h = two (ap not h.0) (can_included w n h.1)
 plain_possible w (Reserve n) h =
     two (two (can_secondary w n h.secondary) (eq-eqb (length (node_at w n).reserved) 0 (ap (λ (xs : List ℕ). length xs) h.empty)))

@@ -22,6 +22,7 @@ use Rattle.iq_world.proofs.Runs.{All-remove, count-push, count-remove, count-wit
 use Rattle.iq_world.proofs.Rising.{runs_low, rises_reserved, runs_refit, beside, NodesRise, nodes_still, nodes_set, good_moves, good_one, Good}
 
 pub good_begin : (w : World) (s n : ℕ) → possible w (Begin s n) ≡ true → IsSound w → Good w (begun w s n)
+unfolding possible
 good_begin w s n can g =
     let v = begun w s n in
     let tests = both can in
@@ -115,6 +116,7 @@ good_home w free xs n runs k g =
     g
 
 pub good_reserve : (w : World) (n : ℕ) → possible w (Reserve n) ≡ true → IsSound w → Good w (reserving w n)
+unfolding possible
 good_reserve w n can g =
     let tests = both can in
     let more = both tests.0 in
@@ -155,6 +157,7 @@ good_private w s free xs private r loose g =
     g
 
 pub good_take : (w : World) (s b : ℕ) → possible w (Take s b) ≡ true → IsSound w → Good w (taking w s b)
+unfolding possible
 good_take w s b can g =
     let tests = both can in
     let r = runs_at w s tests.0 g in
@@ -172,6 +175,7 @@ good_take w s b can g =
     g
 
 pub good_back : (w : World) (s kept : ℕ) → possible w (Back s kept) ≡ true → IsSound w → Good w (backed w s kept)
+unfolding possible
 good_back w s kept can g =
     let tests = both can in
     let r = runs_at w s tests.0 g in

@@ -34,6 +34,7 @@ impl World {
     }
 
     /// Whether a step is possible.
+    #[tactic(auto, unfolding(crate::specs::Steps::possible))]
     pub fn allows(&self, step: &WorldStep) -> bool
         ensures { result ≡ possible self.now step.now }
     {
@@ -70,6 +71,7 @@ impl World {
 }
 
 /// What a possible step changes.
+#[tactic(auto, unfolding(crate::specs::Steps::possible, crate::specs::Steps::change))]
 fn changed(alloc: Global, world: World, step: &WorldStep) -> Result<World, NoMemory>
     requires sound { IsSound world }
     requires possible { possible world step.now ≡ true }
@@ -97,6 +99,7 @@ fn changed(alloc: Global, world: World, step: &WorldStep) -> Result<World, NoMem
 }
 
 /// The world after a step, as it was where the step isn't possible.
+#[tactic(auto, unfolding(crate::specs::Steps::after))]
 pub fn after(alloc: Global, world: World, step: &WorldStep) -> Result<World, NoMemory>
     requires { IsSound world }
     ensures after { IfOk result (λ w. w ≡ after world step.now) }
