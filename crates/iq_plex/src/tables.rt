@@ -25,7 +25,12 @@ pub fn check(tables: &[Stored], write: &Write) -> Option<Refusal>
     match write {
         Write::CreateTable { name, schema: _ } => check_create(tables, name),
         Write::Insert { table, rows } => check_insert(tables, table, rows.as_slice()),
-        _ => None,
+        Write::DropTable { .. }
+        | Write::CreateIndex { .. }
+        | Write::DropIndex { .. }
+        | Write::Load { .. }
+        | Write::Delete { .. }
+        | Write::Update { .. } => unreachable!(),
     }
 }
 

@@ -32,7 +32,12 @@ pub fn write(alloc: Global, tables: &mut Vec<Stored>, write: &Write) -> Result<(
             schema.columns.as_slice(),
         ),
         Write::Insert { table, rows } => insert(tables, table, rows.as_slice()),
-        _ => unreachable!(),
+        Write::DropTable { .. }
+        | Write::CreateIndex { .. }
+        | Write::DropIndex { .. }
+        | Write::Load { .. }
+        | Write::Delete { .. }
+        | Write::Update { .. } => unreachable!(),
     }
 }
 
