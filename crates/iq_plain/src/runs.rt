@@ -5,6 +5,8 @@ ghost use Rattle.iq_model.specs.Scripts.{IsRunnableLine, IsRunnable, HasFewTuple
 ghost use Rattle.iq_model.specs.Statements.{first_refusal, statement_checks, room_checks, HasMeaning, HasWriteMeaning};
 ghost use Rattle.iq_model.specs.State.{start};
 ghost use Rattle.iq_model.specs.History.{DeedIs, IsOnTables, IsWhole, write_said, replies};
+ghost use Rattle.std.specs.List.{AllByRecursion};
+ghost use Rattle.iq_plain.specs.Plain.{HadMemory};
 ghost use Rattle.iq_plain.specs.OneSession.{Runs, RefusesAtOnce};
 
 use crate::answers::answer;
@@ -33,11 +35,13 @@ struct LineRun {
     latest: u64,
 }
 
-/// Runs the lines of a script in their order, from no tables on.
+/// Runs the lines of a script in their order, from no tables on. Where memory is wanting it answers so, and no line is refused
+/// for it.
 pub fn plain_replies(alloc: Global, script: &Script) -> Result<PlainRun, NoMemory>
     requires runnable { IsRunnable script.now }
     ensures whole { IfOk result (λ run. IsWhole script.now [] run.entries) }
     ensures replies { IfOk result (λ run. run.replies ≡ replies (start script.now []) run.entries) }
+    ensures memory { IfOk result (λ run. AllByRecursion HadMemory run.entries) }
 {
     let mut answers = Listed::new(alloc);
     let mut entries = Vec::new(alloc);
