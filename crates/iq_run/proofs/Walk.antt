@@ -22,7 +22,7 @@ use Rattle.iq_model.specs.Scripts.{HasFewTuples}
 use Rattle.iq_model.specs.Statements.{Check, first_refusal, statement_checks, room_checks}
 use Rattle.iq_model.specs.State.{Stage, fresh, begun, locked, done, Work, Run, Standing, idle, lost, running, Desk, State, not_held, locks, database_of}
 use Rattle.iq_model.specs.History.{DeskIs, IsOnTables, IsOpen, IsRunning, IsPossible, entry_replies, begin_run, write_said, statement_said, takes_effect, line_takes, deed_takes}
-use Rattle.iq_plex.specs.Plex.{PlexState, state_of, replies_of, desk_of, IsAt, IsNext, CanBeginLine, CanLockLine, CanRefuseLine, HoldsLine, AsksBegin, AsksHeld, MayLock, MayRefuseAt, OfSeen, IsTableCause}
+use Rattle.iq_plex.specs.Plex.{PlexState, state_of, replies_of, desk_of, IsAt, IsNext, CanBeginLine, CanLockLine, CanRefuseLine, HoldsLine, AsksBegin, AsksHeld, MayLock, MayRefuseAt, OfSeen, IsUnderWay, IsTableCause}
 use Rattle.iq_plex.proofs.Names.{not_held-none, not_held-self}
 use Rattle.iq_plex.proofs.Walking.{desk_at, at_begin, at_lock, at_done, at_refused, at_end, at_commit, with_names, with_effect, replies-commit, replies-end}
 use Rattle.std.proofs.lemmas.List.Elements.{All-push}
@@ -93,6 +93,10 @@ can_refuse_locked p n st cause P r (inr found) = desk_under p (running r.run) lo
 pub seen_of : (p : PlexState) (n : ℕ) (st : Statement) (stage : Stage) (P : Run → Type 0) (r : Runs p stage n st P) (Q : Database → Type 0) → OfSeen p Q → Q r.run.now.seen
 seen_of p n st stage P r Q told = told r.run stage (r.under.line ∷ r.under.rest) r.under.at
 
+-- the line under way of a transaction that runs
+pub under_way : (p : PlexState) (n : ℕ) (st : Statement) (stage : Stage) (P : Run → Type 0) → Runs p stage n st P → IsUnderWay p st
+under_way p n st stage P r = record { run = r.run; stage = stage; line = r.under.line; rest = r.under.rest; at = r.under.at; deed_is = r.under.deed_is }
+
 -- LOCK
 
 pub locked_of : (p q : PlexState) (n : ℕ) (st : Statement) (names : List Name) → Runs p begun n st (MayHold st) → IsNext p (entries.Lock 0 n names) q → names ≡ locks st → Runs q locked n st (HoldsNames st)
@@ -108,7 +112,7 @@ locked_of p q n st names r next is = record {
     meaning = r.under.meaning;
     few = r.under.few;
   };
-  holds = ap (λ held. held ++ names) r.holds.0 ∙ is;
+  holds = (ap (λ held. held ++ names) r.holds.0 ∙ is, r.holds.1);
 }
 
 -- DONE
@@ -142,7 +146,7 @@ done_of p q n write r next = record {
     meaning = r.under.meaning;
     few = r.under.few;
   };
-  holds = λ none. some_names write (sym (held_after r.under.line r.under.rest (statements.Write write) r.run.now r.under.deed_is ∙ r.holds) ∙ none);
+  holds = λ none. some_names write (sym (held_after r.under.line r.under.rest (statements.Write write) r.run.now r.under.deed_is ∙ r.holds.0) ∙ none);
 }
 
 -- what a write is answered names no place

@@ -39,9 +39,9 @@ HoldsNone run = run.now.held ≡ []
 abbrev pub MayHold : Statement → Run → Type 0
 MayHold st run = (run.now.held ≡ []) × (first_refusal (statement_checks st run.now.seen) ≡ None)
 
--- a transaction that holds the names of its statement
+-- a transaction that holds the names of its statement, where nothing refuses what the statement names and holds
 abbrev pub HoldsNames : Statement → Run → Type 0
-HoldsNames st run = run.now.held ≡ locks st
+HoldsNames st run = (run.now.held ≡ locks st) × (first_refusal (statement_checks st run.now.seen) ≡ None)
 
 -- the line has ended: the session is about to run those after it, and its reply is the last one
 pub record EndsLine (old : PlexState) (reply : Reply) (new : PlexState) : Type 0 where
