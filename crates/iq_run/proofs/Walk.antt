@@ -1,5 +1,5 @@
 -- The steps of one line, from where the session stands to where it stands next.
-use Rattle.std.proofs.Common.{◌≡◌, ◌≢◌, ℕ, zero, suc, ◌+◌, ◌<◌, length, get_or, append_assoc, add-one, drop-cons, arith, List, [], ◌∷◌, ◌++◌, refl, sym, ◌∙◌, ap, subst, Option, Some, None, ◌⊎◌, inl, inr, drop}
+use Rattle.std.proofs.Common.{◌≡◌, ◌≢◌, ℕ, zero, suc, ◌+◌, ◌<◌, length, get_or, append_assoc, add-one, drop-cons, arith, List, [], ◌∷◌, ◌++◌, refl, sym, ◌∙◌, ap, subst, Some, inl, inr, drop}
 use Rattle.iq_base.specs.declared.names.Name.{Name}
 use Rattle.iq_base.specs.declared.refusals.Refusal.{Refusal}
 use Rattle.iq_base.specs.declared.refusals.Refusal.TheVariants as refusals
@@ -8,23 +8,19 @@ use Rattle.iq_ast.specs.declared.statements.Statement.TheVariants as statements
 use Rattle.iq_ast.specs.declared.statements.Write.{Write}
 use Rattle.iq_ast.specs.declared.statements.Write.TheVariants as writes
 use Rattle.iq_ast.specs.declared.statements.Select.{Select}
-use Rattle.iq_ast.specs.Built.{IsBuilt, IsBuiltWrite}
 use Rattle.iq_history.specs.declared.entries.Entry.{Entry}
 use Rattle.iq_history.specs.declared.entries.Entry.TheVariants as entries
 use Rattle.iq_model.specs.declared.scripts.Line.{Line}
 use Rattle.iq_model.specs.declared.scripts.Deed.{Deed}
 use Rattle.iq_model.specs.declared.scripts.Deed.TheVariants as deeds
 use Rattle.iq_model.specs.declared.replies.Reply.{Reply}
-use Rattle.iq_model.specs.declared.replies.Said.{Said}
 use Rattle.iq_model.specs.declared.replies.Said.TheVariants as said
 use Rattle.iq_model.specs.Tables.{Database}
-use Rattle.iq_model.specs.Scripts.{HasFewTuples}
-use Rattle.iq_model.specs.Statements.{Check, first_refusal, statement_checks, room_checks}
-use Rattle.iq_model.specs.State.{Stage, fresh, begun, locked, done, Work, Run, Standing, idle, lost, running, Desk, State, not_held, locks, database_of}
-use Rattle.iq_model.specs.History.{DeskIs, IsOnTables, IsOpen, IsRunning, IsPossible, entry_replies, begin_run, statement_said, takes_effect, line_takes, deed_takes}
-use Rattle.iq_plex.specs.Plex.{PlexState, state_of, replies_of, desk_of, IsAt, IsNext, CanBeginLine, CanLockLine, CanRefuseLine, HoldsLine, AsksBegin, AsksHeld, MayLock, MayRefuseAt, OfSeen, IsTableCause}
-use Rattle.iq_plex.proofs.Names.{not_held-none, not_held-self}
-use Rattle.iq_plex.proofs.Walking.{desk_at, at_begin, at_lock, at_done, at_refused, at_end, at_commit, with_names, with_effect, replies-commit, replies-end}
+use Rattle.iq_model.specs.Statements.{Check, first_refusal, statement_checks}
+use Rattle.iq_model.specs.State.{Stage, fresh, begun, locked, done, Work, Run, Standing, idle, running, Desk, locks, database_of}
+use Rattle.iq_model.specs.History.{DeskIs, IsOnTables, IsOpen, entry_replies, begin_run, line_takes, deed_takes}
+use Rattle.iq_plex.specs.Plex.{PlexState, state_of, replies_of, desk_of, IsAt, IsNext, CanBeginLine, CanRefuseLine, AsksBegin, MayRefuseAt, OfSeen, IsTableCause}
+use Rattle.iq_plex.proofs.Walking.{desk_at, at_begin, at_lock, at_done, at_refused, with_names, with_effect}
 use Rattle.std.proofs.lemmas.List.Elements.{All-push}
 use Rattle.std.specs.List.{AllByRecursion}
 use Rattle.iq_model.specs.Scripts.{IsRunnableLine}

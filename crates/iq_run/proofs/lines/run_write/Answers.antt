@@ -1,9 +1,9 @@
-use Rattle.std.proofs.Common.{◌≡◌, sym, Option, None, refl}
+use Rattle.std.proofs.Common.{◌≡◌, sym, None}
 use Rattle.iq_ast.specs.declared.statements.Statement.TheVariants as statements
 use Rattle.iq_model.specs.Tables.{Database}
 use Rattle.iq_model.specs.Statements.{first_refusal, statement_checks}
 use Rattle.iq_model.specs.State.{begun}
-use Rattle.iq_run.specs.Lines.{Runs, HoldsNone, MayHold}
+use Rattle.iq_run.specs.Lines.{HoldsNone}
 use Rattle.iq_run.proofs.Walk.{begun_of, seen_of}
 use Rattle.iq_run.proofs.lines.run_write.Goals as goal
 
