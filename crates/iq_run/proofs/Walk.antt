@@ -1,5 +1,5 @@
 -- The steps of one line, from where the session stands to where it stands next.
-use Rattle.std.proofs.Common.{◌≡◌, ◌≢◌, ℕ, zero, suc, ◌+◌, ◌<◌, length, get_or, append_assoc, add-one, drop-cons, arith, List, [], ◌∷◌, ◌++◌, refl, sym, ◌∙◌, ap, subst, Option, Some, None, ◌⊎◌, inl, inr, drop}
+use Rattle.std.proofs.Common.{◌≡◌, ◌≢◌, ℕ, zero, suc, ◌+◌, ◌<◌, length, get_or, append_assoc, add-one, drop-cons, arith, List, [], ◌∷◌, ◌++◌, refl, sym, ◌∙◌, ap, subst, Some, inl, inr, drop}
 use Rattle.iq_base.specs.declared.names.Name.{Name}
 use Rattle.iq_base.specs.declared.refusals.Refusal.{Refusal}
 use Rattle.iq_base.specs.declared.refusals.Refusal.TheVariants as refusals
@@ -8,14 +8,12 @@ use Rattle.iq_ast.specs.declared.statements.Statement.TheVariants as statements
 use Rattle.iq_ast.specs.declared.statements.Write.{Write}
 use Rattle.iq_ast.specs.declared.statements.Write.TheVariants as writes
 use Rattle.iq_ast.specs.declared.statements.Select.{Select}
-use Rattle.iq_ast.specs.Built.{IsBuilt, IsBuiltWrite}
 use Rattle.iq_history.specs.declared.entries.Entry.{Entry}
 use Rattle.iq_history.specs.declared.entries.Entry.TheVariants as entries
 use Rattle.iq_model.specs.declared.scripts.Line.{Line}
 use Rattle.iq_model.specs.declared.scripts.Deed.{Deed}
 use Rattle.iq_model.specs.declared.scripts.Deed.TheVariants as deeds
 use Rattle.iq_model.specs.declared.replies.Reply.{Reply}
-use Rattle.iq_model.specs.declared.replies.Said.{Said}
 use Rattle.iq_model.specs.declared.replies.Said.TheVariants as said
 use Rattle.iq_model.specs.Tables.{Database}
 use Rattle.iq_model.specs.Scripts.{HasFewTuples}

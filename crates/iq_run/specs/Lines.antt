@@ -1,5 +1,5 @@
 -- What running one line does to the shared state.
-use Rattle.std.specs.Prelude.{◌≡◌, ◌≢◌, ℕ, List, [], ◌∷◌, ◌++◌, None}
+use Rattle.std.specs.Prelude.{◌≡◌, ℕ, List, [], ◌∷◌, ◌++◌, None}
 use Rattle.iq_ast.specs.declared.statements.Statement.{Statement}
 use Rattle.iq_ast.specs.Built.{IsBuilt}
 use Rattle.iq_model.specs.declared.scripts.Line.{Line}
