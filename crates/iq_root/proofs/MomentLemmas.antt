@@ -1,5 +1,5 @@
 -- How what a stop may leave goes on from call to call.
-use Rattle.std.specs.Prelude.{ℕ, Bool, List, Option}
+use Rattle.std.specs.Prelude.{ℕ, List}
 use Rattle.std.proofs.Common.{inl, inr, arith, ◌∙◌}
 use Rattle.std.proofs.lemmas.Bool.{cases_lt}
 use Rattle.iq_outside.specs.DeviceCalls.{KeepsPast, AddsNone}

@@ -4,8 +4,8 @@ use Rattle.std.proofs.Common.{refl, sym, ap, subst, ◌∙◌, inl, inr, arith}
 use Rattle.std.proofs.lemmas.Bool.{lt-ltb, le-ltb, leb-true, eqb-true, and_parts}
 use Rattle.iq_outside.specs.Devices.{block_of}
 use Rattle.std.proofs.lemmas.List.{get_or_past}
-use Rattle.iq_block_store.specs.Frames.{number_at, has_header, mark}
-use Rattle.iq_root.specs.Roots.{body_kind, gate_kind, long_at, root_of, is_valid, newer, newest, slot_root}
+use Rattle.iq_block_store.specs.Frames.{number_at, has_header, mark, body_kind, gate_kind}
+use Rattle.iq_root.specs.Roots.{long_at, root_of, is_valid, newer, newest, slot_root}
 use Rattle.iq_root.specs.declared.root.Root.{Root}
 
 -- past the end there is no block

@@ -5,8 +5,8 @@ use Rattle.std.proofs.lemmas.Bool.{cases_lt, cases_Bool, ltb-true, lt-ltb}
 use Rattle.std.proofs.lemmas.List.{set-set, set_comm}
 use Rattle.std.proofs.lemmas.Nat.{mod_below}
 use Rattle.iq_outside.specs.Devices.{block_of, SameBut}
-use Rattle.iq_block_store.specs.Frames.{has_header}
-use Rattle.iq_root.specs.Roots.{gate_kind, body_place, gate_place, long_at, root_of, is_valid, slot_root, newer, newest, body_block, gate_block}
+use Rattle.iq_block_store.specs.Frames.{has_header, gate_kind}
+use Rattle.iq_root.specs.Roots.{body_place, gate_place, long_at, root_of, is_valid, slot_root, newer, newest, body_block, gate_block}
 use Rattle.iq_outside.proofs.ImageLemmas.{SameBut-set}
 use Rattle.iq_root.proofs.SlotLemmas.{in_slot, slot_trans}
 use Rattle.iq_root.specs.Pages.{RootFits}

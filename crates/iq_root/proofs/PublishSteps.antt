@@ -1,5 +1,5 @@
 -- The three steps of publishing: the gate is closed, the body is written, the gate is opened.
-use Rattle.std.specs.Prelude.{◌≡◌, ◌⊎◌, ℕ, ◌≤◌, Bool, List, length, Option, Some, Result, Ok, Err, OnOk, slice_set}
+use Rattle.std.specs.Prelude.{◌≡◌, ◌⊎◌, ℕ, ◌≤◌, List, length, Some, Result, Ok, Err, OnOk, slice_set}
 use Rattle.std.proofs.Common.{refl, sym, ap, subst, ◌∙◌, inl, inr, arith}
 use Rattle.iq_outside.specs.Devices.{SameBut}
 use Rattle.iq_outside.specs.DeviceCalls.{KeepsPast}

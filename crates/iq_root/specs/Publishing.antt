@@ -1,10 +1,10 @@
 -- What publishing a root does, also where a stop cuts it short.
-use Rattle.std.specs.Prelude.{◌≡◌, ◌⊎◌, ℕ, ◌+◌, ◌%◌, ◌^◌, ◌<◌, ◌≤◌, Bool, true, false, List, Option, Some, Result, OnOk, slice_set}
+use Rattle.std.specs.Prelude.{◌≡◌, ◌⊎◌, ℕ, ◌+◌, ◌%◌, ◌^◌, ◌<◌, ◌≤◌, true, false, List, Some, Result, OnOk, slice_set}
 use Rattle.iq_outside.specs.declared.device.Device.{Ghosts}
 use Rattle.iq_outside.specs.Devices.{block_of, Stored}
 use Rattle.iq_outside.specs.DeviceCalls.{KeepsPast, AddsAt, IsSettled}
-use Rattle.iq_block_store.specs.Frames.{has_header}
-use Rattle.iq_root.specs.Roots.{body_kind, gate_kind, least_format, most_format, body_place, gate_place, long_at, newest, body_block, gate_block}
+use Rattle.iq_block_store.specs.Frames.{has_header, body_kind, gate_kind}
+use Rattle.iq_root.specs.Roots.{least_format, most_format, body_place, gate_place, long_at, newest, body_block, gate_block}
 use Rattle.iq_root.specs.Stops.{SameButSlot}
 use Rattle.iq_root.specs.declared.root.Root.{Root}
 

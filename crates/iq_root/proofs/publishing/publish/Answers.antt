@@ -1,6 +1,6 @@
 use Rattle.std.proofs.Common.{ap, refl, inl, inr, arith}
-use Rattle.iq_block_store.specs.Frames.{framed}
-use Rattle.iq_root.specs.Roots.{gate_kind, body_kind, gate_place, body_place}
+use Rattle.iq_block_store.specs.Frames.{framed, gate_kind, body_kind}
+use Rattle.iq_root.specs.Roots.{gate_place, body_place}
 use Rattle.iq_root.specs.Publishing.{slot_of}
 use Rattle.iq_root.proofs.SlotLemmas.{slot_refl}
 use Rattle.iq_root.proofs.StepLemmas.{stored_long}
