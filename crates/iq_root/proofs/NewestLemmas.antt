@@ -66,6 +66,11 @@ slot_parity slot blocks root is =
     let valid : IsValid slot (block_of blocks (2 * slot)) (block_of blocks (2 * slot + 1)) = valid_parts slot _ _ parts.0 in
     ap (λ (r : Root). r.generation % 2) parts.1 ∙ valid.parity
 
+-- the body in a slot tells its root's generation
+pub slot_body : (slot : ℕ) (blocks : List (List ℕ)) (root : Root) → slot_root slot blocks ≡ Some root → long_at (block_of blocks (2 * slot)) 16 ≡ root.generation
+slot_body slot blocks root is =
+    sym (ap (λ (r : Root). r.generation) (if_some (is_valid slot (block_of blocks (2 * slot)) (block_of blocks (2 * slot + 1))) (root_of (block_of blocks (2 * slot))) root is).1)
+
 newer_is : (a b : Option Root) (root : Root) → newer a b ≡ Some root → (a ≡ Some root) ⊎ (b ≡ Some root)
 newer_is None b root is = inr is
 newer_is (Some x) None root is = inl is

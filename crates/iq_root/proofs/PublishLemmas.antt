@@ -53,18 +53,18 @@ with_rest slot generation root all =
     (in_slot slot (gate_place slot) with_body (with_slot slot root generation all) (inr refl) (SameBut-set (gate_place slot) with_body (gate_block slot generation)))
 
 -- the slots of two roots in a row
-both_slots : (last root : Root) → root.generation ≡ last.generation + 1 → AreBoth (slot_of root) (slot_of last)
+pub both_slots : (last root : Root) → root.generation ≡ last.generation + 1 → AreBoth (slot_of root) (slot_of last)
 both_slots last root next = elim (cases_lt (last.generation % 2) 1) [
   | inl even ↦ inr (omega (arith, even, next), omega (arith, even))
   | inr odd ↦ inl (omega (arith, odd, next), omega (arith, odd, mod_below last.generation 2 (omega arith)))
 ]
 
 -- the blocks of a slot are the same
-record SameSlot (slot : ℕ) (all b : List (List ℕ)) : Type 0 where
+pub record SameSlot (slot : ℕ) (all b : List (List ℕ)) : Type 0 where
   pub body : block_of b (body_place slot) ≡ block_of all (body_place slot)
   pub gate : block_of b (gate_place slot) ≡ block_of all (gate_place slot)
 
-same_root : (slot : ℕ) (all b : List (List ℕ)) → SameSlot slot all b → slot_root slot b ≡ slot_root slot all
+pub same_root : (slot : ℕ) (all b : List (List ℕ)) → SameSlot slot all b → slot_root slot b ≡ slot_root slot all
 same_root slot all b same =
     ap (λ (body : List ℕ). if is_valid slot body (block_of b (gate_place slot)) then Some (root_of body) else None) same.body
     ∙ ap (λ (gate : List ℕ). if is_valid slot (block_of all (body_place slot)) gate then Some (root_of (block_of all (body_place slot))) else None) same.gate
@@ -76,7 +76,7 @@ same_read slot all b body gate =
     ap (λ (x : List ℕ). if is_valid slot x (block_of b (gate_place slot)) then Some (root_of x) else None) body
     ∙ rw (gate.header, gate.generation) refl
 
-other_same : (s o : ℕ) (all b : List (List ℕ)) → AreBoth s o → SameButSlot s all b → SameSlot o all b
+pub other_same : (s o : ℕ) (all b : List (List ℕ)) → AreBoth s o → SameButSlot s all b → SameSlot o all b
 other_same s o all b (inl is) same = record {
   body = same.others (body_place o) (omega (arith, is.0, is.1)) (omega (arith, is.0, is.1));
   gate = same.others (gate_place o) (omega (arith, is.0, is.1)) (omega (arith, is.0, is.1));
