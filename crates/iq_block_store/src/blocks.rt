@@ -5,7 +5,8 @@ ghost use Rattle.iq_block_store.specs.Frames.{has_header, framed};
 ghost use Rattle.iq_block_store.specs.Faults.{ReadFails, WriteFails, IsBlockAt, CameUnlessFault};
 ghost use Rattle.iq_block_store.specs.Looks.{HasLooked};
 
-use crate::frames::{self, Page};
+use crate::frames;
+use iq_base::Page;
 use iq_outside::{Block, Device};
 use std::error::Error;
 use std::fmt;

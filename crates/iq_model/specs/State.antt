@@ -136,7 +136,14 @@ first_later wrote snapshot (name ∷ names) = option_or (later_refusal name snap
 -- the names that a statement locks; a query locks none
 abbrev pub locks : Statement → List Name
 locks (statements.Write write) = names_of write
-locks _ = []
+locks (statements.Select select) = []
+locks statements.Begin = []
+locks statements.Commit = []
+locks statements.Rollback = []
+locks (statements.Savepoint name) = []
+locks (statements.BackTo name) = []
+locks (statements.Release name) = []
+locks statements.Sync = []
 
 -- The tests of the names that a statement of this session's transaction would lock: held by another, written since.
 abbrev pub lock_checks : State → ℕ → Run → Statement → List Check

@@ -17,7 +17,7 @@ pub record Table : Type 0 where
   pub columns : List Column
   pub slots : List Slot
 
--- a database is a list of tables, with ascending names
+-- a database is a list of tables, in the order in which they are looked up
 abbrev pub Database : Type 0
 Database = List Table
 

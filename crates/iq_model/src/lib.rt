@@ -18,5 +18,5 @@ pub use answers::{Answer, Freed, NodeVersion, Out, Sent, Versions};
 pub use checks::{column_place, first_bad_row, first_no_column};
 pub use locking::names_of;
 pub use projection::{out_of, projected_row};
-pub use replies::{Reply, Said};
+pub use replies::{Reply, Said, write_said};
 pub use scripts::{Deed, Line, Script, Step};

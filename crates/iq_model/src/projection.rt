@@ -42,7 +42,7 @@ fn item_value(columns: &[Column], item: &Item, row: &[Value]) -> Out
 {
     match item {
         Item::Plain(name) => value_at(column_place(columns, name), row),
-        _ => Out::Null,
+        Item::CountAll | Item::Count(_) | Item::Sum(_) | Item::Min(_) | Item::Max(_) => Out::Null,
     }
 }
 

@@ -57,4 +57,9 @@ commits-built (writes.Insert name rows) db built =
           let there = some_table name (table_of name db) rows granted in
           subst (λ (o : Option Table). committed (record { seen = inserted o rows db; held = name ∷ []; created = [] }) db ≡ inserted o rows db) (sym there.1) (committed-inserted name (with_rows there.0 rows) there.0 db (not_catalog name built.0.free) (name-table_of name there.0 db there.1) there.1);
     }
-commits-built _ db built = absurd built
+commits-built (writes.DropTable name) db built = absurd built
+commits-built (writes.CreateIndex name kind table column second) db built = absurd built
+commits-built (writes.DropIndex table name) db built = absurd built
+commits-built (writes.Load table rows text) db built = absurd built
+commits-built (writes.Delete table cond) db built = absurd built
+commits-built (writes.Update table changes cond) db built = absurd built

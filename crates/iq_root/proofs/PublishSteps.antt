@@ -1,14 +1,17 @@
 -- The three steps of publishing: the gate is closed, the body is written, the gate is opened.
-use Rattle.std.specs.Prelude.{◌≡◌, ◌⊎◌, ℕ, ◌≤◌, Bool, List, length, Option, Some, Result, Ok, Err, OnOk, slice_set}
+use Rattle.std.specs.Prelude.{◌≡◌, ◌⊎◌, ℕ, ◌<◌, ◌≤◌, List, length, Some, Result, Ok, Err, OnOk, slice_set}
 use Rattle.std.proofs.Common.{refl, sym, ap, subst, ◌∙◌, inl, inr, arith}
-use Rattle.iq_outside.specs.Devices.{SameBut}
-use Rattle.iq_outside.specs.DeviceCalls.{KeepsPast}
+use Rattle.iq_outside.specs.Devices.{block_of, SameBut, WholeMayStay}
+use Rattle.iq_outside.specs.DeviceCalls.{view, KeepsPast}
 use Rattle.iq_outside.specs.declared.device.Device.{Ghosts}
 use Rattle.iq_outside.proofs.ImageLemmas.{SameBut-set}
-use Rattle.iq_root.specs.Roots.{body_place, gate_place, body_block, gate_block, newest}
+use Rattle.iq_block_store.specs.Frames.{gate_kind}
+use Rattle.iq_root.specs.Roots.{long_at, body_place, gate_place, body_block, gate_block, newest}
 use Rattle.iq_root.specs.Pages.{RootFits}
 use Rattle.iq_root.specs.Stops.{SameButSlot, LeavesOnly, LeftButSlot}
-use Rattle.iq_root.specs.Publishing.{slot_of, published, Follows, HasLastOrNew, IsStale, IsGateWhole, RootsAreSafe, HasKept}
+use Rattle.iq_root.specs.Publishing.{slot_of, published, Follows, HasLastOrNew, SameRoots, IsStale, ReadsAs, IsGateWhole, as_before, closed, headless, RootsUntorn, IsUntorn, unheaded, as_whole, RootsAreSafe, HasKept}
+use Rattle.std.proofs.lemmas.Nat.{mod_below}
+use Rattle.iq_root.proofs.BodyLemmas.{gate_tells}
 use Rattle.iq_root.proofs.MomentLemmas.{past_on, leaves_on}
 use Rattle.iq_root.proofs.SlotLemmas.{slot_trans, in_slot}
 use Rattle.iq_root.proofs.PublishLemmas.{closed_blocks, body_blocks, closing, writing, opening, opened, published_newest, published_leaves}
@@ -65,21 +68,50 @@ module _ {D : Type 0} (g : Ghosts D) where
         (past_on g old mid next closes.past writes.past) (left_second r r' old mid next closes writes) opens
 
     module _ (all : List (List ℕ)) (last : Root) (follows : Follows all last root) (four : 4 ≤ length all) where
+      -- bytes that were whole in the gate's place before are those that are read there
+      whole_before : (old : D) → WholeMayStay (view g old) → g.blocks old ≡ Some all
+          → ((b : List (List ℕ)) → g.image old (g.clock old) b → SameRoots all b) → (y : List ℕ) → g.whole old (g.clock old) (gate_place (slot_of root)) y
+          → y ≡ block_of all (gate_place (slot_of root))
+      whole_before old may told settled y whole =
+          let two : slot_of root < 2 = mod_below root.generation 2 (omega arith) in
+          let from = may all (gate_place (slot_of root)) y told (omega (arith, two, four)) whole in
+          sym from.2 ∙ settled from.0 from.1 (gate_place (slot_of root)) (omega (arith, two))
+
+      -- so a gate that isn't torn while it is closed reads as before, or as a closed one
+      gate_of : (old : D) (b : List (List ℕ)) (y : List ℕ) → ReadsAs gate_kind (gate_place (slot_of root)) (block_of b (gate_place (slot_of root))) y
+          → (y ≡ block_of all (gate_place (slot_of root))) ⊎ (y ≡ gate_block (slot_of root) 0) → IsGateWhole all root b
+      gate_of old b y reads (inl before) = as_before (subst (ReadsAs gate_kind (gate_place (slot_of root)) (block_of b (gate_place (slot_of root)))) before reads)
+      gate_of old b y reads (inr shut) = closed (reads.generation ∙ ap (λ (x : List ℕ). long_at x 16) shut ∙ gate_tells (slot_of root) 0 (omega arith))
+
+      untorn_gate : {T E : Type 0} (r : Result T E) (old mid new : D) (t : ℕ) (b : List (List ℕ)) → Closes r old mid → KeepsPast g mid new → WholeMayStay (view g old)
+          → g.blocks old ≡ Some all → ((b : List (List ℕ)) → g.image old (g.clock old) b → SameRoots all b) → g.clock old ≤ t → t ≤ g.clock mid
+          → IsUntorn (g.whole new t (gate_place (slot_of root))) gate_kind (gate_place (slot_of root)) (block_of b (gate_place (slot_of root)))
+          → IsGateWhole all root b
+      untorn_gate r old mid new t b closes past may told settled since until (unheaded missing) = headless missing
+      untorn_gate r old mid new t b closes past may told settled since until (as_whole y whole reads) =
+          gate_of old b y reads (was_or_closed (closes.whole t (gate_place (slot_of root)) y since until (past.whole_before t (gate_place (slot_of root)) y until whole)))
+        where
+          was_or_closed : g.whole old (g.clock old) (gate_place (slot_of root)) y ⊎ ((gate_place (slot_of root) ≡ gate_place (slot_of root)) × (y ≡ gate_block (slot_of root) 0))
+              → (y ≡ block_of all (gate_place (slot_of root))) ⊎ (y ≡ gate_block (slot_of root) 0)
+          was_or_closed (inl was) = inl (whole_before old may told settled y was)
+          was_or_closed (inr shut) = inr shut.1
+
       -- what a stop may leave while the gate is closed
-      first_moments : {T E : Type 0} (r : Result T E) (old mid new : D) → Closes r old mid → KeepsPast g mid new
+      first_moments : {T E : Type 0} (r : Result T E) (old mid new : D) → WholeMayStay (view g old) → g.blocks old ≡ Some all → Closes r old mid → KeepsPast g mid new
           → RootsAreSafe g all last root old new → LeavesOnly g old mid (HasLastOrNew all last root)
-      first_moments r old mid new closes past safe t b since until left =
+      first_moments r old mid new may told closes past safe t b since until left =
           let from = closes.since t b since until left in
           closing all last root follows four fits from.0 b (safe.settled from.0 from.1) from.2 (torn_of safe.torn)
         where
-          torn_of : (IsStale all last root ⊎ ((t : ℕ) (b : List (List ℕ)) → g.clock old ≤ t → t ≤ g.clock new → g.image new t b → IsGateWhole all root b))
-              → IsStale all last root ⊎ IsGateWhole all root b
+          torn_of : (IsStale all last root ⊎ RootsUntorn g new (g.clock old) (g.clock new)) → IsStale all last root ⊎ IsGateWhole all root b
           torn_of (inl stale) = inl stale
-          torn_of (inr whole) = inr (whole t b since (omega (arith, until, past.later)) (past.keeps t b until left))
+          torn_of (inr untorn) =
+              inr (untorn_gate r old mid new t b closes past may told safe.settled since until
+              ((untorn t b since (omega (arith, until, past.later)) (past.keeps t b until left)).gates (slot_of root) (mod_below root.generation 2 (omega arith))))
 
-      pub any_first : {T E : Type 0} (r : Result T E) (old new : D) → Closes r old new
+      pub any_first : {T E : Type 0} (r : Result T E) (old new : D) → WholeMayStay (view g old) → g.blocks old ≡ Some all → Closes r old new
           → RootsAreSafe g all last root old new → LeavesOnly g old new (HasLastOrNew all last root)
-      any_first r old new closes safe = first_moments r old new new closes (past_stays g new) safe
+      any_first r old new may told closes safe = first_moments r old new new may told closes (past_stays g new) safe
 
       second_moments : {U E T E' : Type 0} (u : U) (r : Result T E') (old mid new : D) → g.blocks old ≡ Some all → Closes {T = U} {E = E} (Ok u) old mid → Writes r mid new
           → LeavesOnly g mid new (HasLastOrNew all last root)
@@ -88,11 +120,11 @@ module _ {D : Type 0} (g : Ghosts D) where
           (kept_images g _ _ r mid new (closed_blocks root all) writes closes.settled
           (closes.content.ok all told) t b since until left)
 
-      pub any_second : {U E T E' : Type 0} (u : U) (r : Result T E') (old mid new : D) → g.blocks old ≡ Some all → Closes {T = U} {E = E} (Ok u) old mid → Writes r mid new
+      pub any_second : {U E T E' : Type 0} (u : U) (r : Result T E') (old mid new : D) → WholeMayStay (view g old) → g.blocks old ≡ Some all → Closes {T = U} {E = E} (Ok u) old mid → Writes r mid new
           → RootsAreSafe g all last root old new → LeavesOnly g old new (HasLastOrNew all last root)
-      any_second u r old mid new told closes writes safe =
+      any_second u r old mid new may told closes writes safe =
           leaves_on g old mid new (HasLastOrNew all last root) writes.past
-          (first_moments (Ok u) old mid new closes writes.past safe) (second_moments u r old mid new told closes writes)
+          (first_moments (Ok u) old mid new may told closes writes.past safe) (second_moments u r old mid new told closes writes)
 
       third_moments : {U E U' E' T E'' : Type 0} (u : U) (u' : U') (r : Result T E'') (old mid next new : D) → g.blocks old ≡ Some all
           → Closes {T = U} {E = E} (Ok u) old mid → Writes {T = U'} {E = E'} (Ok u') mid next → Opens r next new → LeavesOnly g next new (HasLastOrNew all last root)
@@ -101,13 +133,13 @@ module _ {D : Type 0} (g : Ghosts D) where
           (kept_images g _ _ r next new (body_blocks root all) opens writes.settled
           (writes.content.ok _ (closes.content.ok all told)) t b since until left)
 
-      pub any_third : {U E U' E' T E'' : Type 0} (u : U) (u' : U') (r : Result T E'') (old mid next new : D) → g.blocks old ≡ Some all
+      pub any_third : {U E U' E' T E'' : Type 0} (u : U) (u' : U') (r : Result T E'') (old mid next new : D) → WholeMayStay (view g old) → g.blocks old ≡ Some all
           → Closes {T = U} {E = E} (Ok u) old mid → Writes {T = U'} {E = E'} (Ok u') mid next → Opens r next new
           → RootsAreSafe g all last root old new → LeavesOnly g old new (HasLastOrNew all last root)
-      any_third u u' r old mid next new told closes writes opens safe =
+      any_third u u' r old mid next new may told closes writes opens safe =
           leaves_on g old next new (HasLastOrNew all last root) opens.past
           (leaves_on g old mid next (HasLastOrNew all last root) writes.past
-          (first_moments (Ok u) old mid new closes (past_on g mid next new writes.past opens.past) safe)
+          (first_moments (Ok u) old mid new may told closes (past_on g mid next new writes.past opens.past) safe)
           (second_moments u (Ok u') old mid next told closes writes))
           (third_moments u u' r old mid next new told closes writes opens)
 

@@ -1,8 +1,9 @@
 -- What a block that is written and synced leaves of a device.
-use Rattle.std.specs.Prelude.{◌≡◌, ◌⊎◌, ℕ, ◌≤◌, Bool, List, length, Option, Some, None, Result, Ok, Err, OnOk, OnErr, slice_set}
-use Rattle.std.proofs.Common.{refl, ap, subst, ◌∙◌, arith, length-set}
-use Rattle.iq_outside.specs.Devices.{SameBut, Stored, Cut, resized}
-use Rattle.iq_outside.specs.DeviceCalls.{KeepsPast, IsSettled, HasWritten, HasSynced}
+use Rattle.std.specs.Prelude.{◌≡◌, ◌⊎◌, ℕ, ◌≤◌, List, length, Option, Some, None, Result, Ok, Err, OnOk, OnErr, IsErr, slice_set}
+use Rattle.std.proofs.Common.{refl, ap, subst, ◌∙◌, inl, inr, arith, length-set}
+use Rattle.std.proofs.lemmas.Bool.{cases_lt}
+use Rattle.iq_outside.specs.Devices.{Seen, GoesOn, WholeSame, WholeBut, SameBut, Stored, Cut, resized}
+use Rattle.iq_outside.specs.DeviceCalls.{view, KeepsPast, IsSettled, HasWritten, HasSynced}
 use Rattle.iq_outside.specs.declared.device.Device.{Ghosts}
 use Rattle.iq_outside.proofs.ImageLemmas.{SameBut-set}
 use Rattle.iq_root.specs.Roots.{body_place, gate_place, body_block, gate_block}
@@ -20,6 +21,11 @@ on_ok (Err e) p = tt
 on_err : {T E : Type 0} {P : Type 0} (result : Result T E) → P → OnErr result P
 on_err (Ok x) p = tt
 on_err (Err e) p = p
+
+-- an error promises nothing of Ok
+pub no_ok : {T E : Type 0} (P : Type 0) (result : Result T E) → IsErr result → OnOk result P
+no_ok P (Ok x) failed = cc
+no_ok P (Err e) failed = tt
 
 -- the blocks that are told are one list
 pub told_once : (told : Option (List (List ℕ))) (a b : List (List ℕ)) → told ≡ Some a → told ≡ Some b → a ≡ b
@@ -67,11 +73,18 @@ slot_put slot generation root body gate u (Ok x) old mid new is_body is_gate fir
     ∙ ap (λ (g : List ℕ). Some (slice_set (slice_set all (body_place slot) (body_block slot root)) (gate_place slot) g)) is_gate
 slot_put slot generation root body gate u (Err e) old mid new is_body is_gate first second = tt
 
+-- a write, and then a call that adds no whole bytes
+whole_on : (old mid new : Seen) (at : ℕ) (block : List ℕ) → GoesOn mid new → old.clock ≤ mid.clock → WholeBut at block old mid → WholeSame mid new
+    → WholeBut at block old new
+whole_on old mid new at block past later first second t i x since until whole = elim (cases_lt mid.clock t) [
+  | inl after ↦ first mid.clock i x later (omega arith) (second t i x (omega (arith, after)) until whole)
+  | inr early ↦ first t i x since early (past.whole_before t i x early whole)
+]
+
 module _ {D : Type 0} (g : Ghosts D) where
-  pub kept_ok : {T E U F : Type 0} (at : ℕ) (block : List ℕ) (u : U) (result : Result T E) (old mid new : D)
-      → HasWritten {D = D} {T = U} {E = F} g at block (Ok u) old mid → HasSynced g result mid new
-      → HasKept g at block result old new
-  kept_ok at block u result old mid new wrote synced = record {
+  pub kept_ok : {T E U F V G : Type 0} (at : ℕ) (block : List ℕ) (u : U) (inner : Result V G) (result : Result T E) (old mid new : D) → (OnOk inner (IsSettled g new) → OnOk result (IsSettled g new))
+      → HasWritten {D = D} {T = U} {E = F} g at block (Ok u) old mid → HasSynced g inner mid new → HasKept g at block result old new
+  kept_ok at block u inner result old mid new carries wrote synced = record {
     content = record {
       ok = λ all told. on_ok result (synced.content ∙ wrote.content.ok all told);
       err = λ all told. on_err result (slice_set all at block, synced.content ∙ wrote.content.ok all told, SameBut-set at all block);
@@ -80,7 +93,8 @@ module _ {D : Type 0} (g : Ghosts D) where
     past = past_on g old mid new wrote.past synced.past;
     since = leaves_on g old mid new (λ b. (c : List (List ℕ)) × g.image old (g.clock old) c × SameBut at c b) synced.past wrote.since
         (λ t b since until left. wrote.since (g.clock mid) b wrote.past.later (omega arith) (synced.since t b since until left));
-    settled = synced.settled;
+    whole = whole_on (view g old) (view g mid) (view g new) at block synced.past wrote.past.later wrote.whole synced.whole;
+    settled = carries synced.settled;
   }
 
   -- what was written where it is Ok doesn't depend on the type of errors

@@ -8,9 +8,10 @@ ghost use Rattle.iq_root.specs.Publishing.{with_slot};
 ghost use Rattle.iq_root.specs.Formatting.{empty_root, formatted};
 ghost use Rattle.iq_root.specs.Causes.{HasFault};
 
-use crate::pages::{BODY, GATE, body_page, gate_page};
-use crate::steps::{put, resize, sync};
+use crate::pages::{body_page, gate_page};
+use crate::steps::put;
 use crate::{Addresses, Root, RootFault};
+use iq_block_store::{BODY, GATE, resize, sync};
 use iq_outside::Device;
 
 /// The format of a store that is made now.
@@ -32,7 +33,7 @@ pub fn format<D: Device>(disk: &mut D, count: u32) -> Result<(), RootFault>
     resize(disk, count)?;
     put_slot(disk, 0, &empty_root(0, count), 0)?;
     put_slot(disk, 1, &empty_root(1, count), 1)?;
-    sync(disk)
+    Ok(sync(disk)?)
 }
 
 /// The root of a store without tables.

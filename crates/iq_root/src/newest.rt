@@ -6,10 +6,9 @@ ghost use Rattle.iq_block_store.specs.Looks.{HasLooked};
 ghost use Rattle.iq_root.specs.Roots.{long_at, root_of, may_say, slot_root, newer, newest};
 ghost use Rattle.iq_root.specs.Causes.{HasNoRoot, HasFault};
 
-use crate::pages::{BODY, GATE, long_at};
-use crate::steps::count_of;
+use crate::pages::long_at;
 use crate::{Addresses, Root, RootFault};
-use iq_block_store::{BlockFault, number_at, read};
+use iq_block_store::{BODY, BlockFault, GATE, count_of, number_at, read};
 use iq_outside::{Block, Device};
 
 /// The formats that count, from the least to the most.

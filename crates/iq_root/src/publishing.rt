@@ -6,9 +6,10 @@ ghost use Rattle.iq_root.specs.Stops.{SameButSlot, LeavesOnly, LeftButSlot};
 ghost use Rattle.iq_root.specs.Publishing.{slot_of, published, Follows, HasLastOrNew, IsStale, IsGateWhole, RootsAreSafe};
 ghost use Rattle.iq_root.specs.Causes.{HasFault};
 
-use crate::pages::{BODY, GATE, body_page, gate_page};
+use crate::pages::{body_page, gate_page};
 use crate::steps::keep;
 use crate::{Root, RootFault};
+use iq_block_store::{BODY, GATE};
 use iq_outside::Device;
 
 /// Publishes a root in the slot of its generation: closes the gate, writes the body, opens the gate, and syncs after each. The

@@ -1,6 +1,6 @@
 -- How far back versions are wanted: floors, the horizon and the live snapshots.
-use Rattle.std.specs.Prelude.{ℕ, Bool, not, List, ◌∷◌, ◌++◌, map, drop}
-use Rattle.std.specs.List.{filter}
+use Rattle.std.specs.Prelude.{◌≡◌, ℕ, ◌<◌, ◌≤◌, Bool, false, not, List, ◌∷◌, ◌++◌, length, map, drop}
+use Rattle.std.specs.List.{All, filter}
 use Rattle.iq_floors.specs.Floors.{floor, horizon}
 use Rattle.iq_world.specs.declared.worlds.World.{World}
 use Rattle.iq_world.specs.declared.worlds.WorldNode.{WorldNode}
@@ -26,6 +26,13 @@ taken_floors nodes = map (λ (n : WorldNode). n.taken) (filter is_counted nodes)
 -- the horizon: the least of the coordinator's floor and the taken floors of the secondaries that aren't excluded
 abbrev pub horizon_of : World → ℕ
 horizon_of w = horizon (floor_of w 0) (taken_floors (drop 1 w.nodes))
+
+-- every node that counts is known to be past a commit: the coordinator and its runs by themselves, the others by a report that was
+-- taken
+pub record IsPast (w : World) (c : ℕ) : Type 0 where
+  pub coordinator : c ≤ (node_at w 0).position
+  pub runs : All (λ (r : WorldRun). r.node ≡ 0 → c ≤ r.snapshot) w.runs
+  pub reports : (n : ℕ) → 0 < n → n < length w.nodes → (node_at w n).excluded ≡ false → c ≤ (node_at w n).taken
 
 -- the live snapshots: the latest commit, the position of every node that isn't excluded, and every run's snapshot
 abbrev pub live : World → List ℕ

@@ -104,7 +104,7 @@ abbrev pub can_end : World → ℕ → Bool
 can_end w n = is_secondary w n && can_rise (node_at w n).incarnation
 
 -- Whether a step is possible.
-abbrev pub possible : World → WorldStep → Bool
+unfoldable pub possible : World → WorldStep → Bool
 possible w (Begin s n) = not (is_running w s) && is_included w n
 possible w (Reserve n) = is_secondary w n && (length (node_at w n).reserved == 0) && not (length w.free == 0)
 possible w (Take s b) = is_running w s && holds (home w (run_of w s).node) b
@@ -194,7 +194,7 @@ abbrev pub node_included : World → ℕ → World
 node_included w n = with_node n (record (node_at w n) { position = latest_of w; taken = latest_of w; excluded = false }) w
 
 -- what a step changes where it is possible
-abbrev pub change : World → WorldStep → World
+unfoldable pub change : World → WorldStep → World
 change w (Begin s n) = begun w s n
 change w (Reserve n) = reserving w n
 change w (Take s b) = taking w s b
@@ -212,7 +212,7 @@ change w (Exclude n) = node_excluded w n
 change w (Include n) = node_included w n
 
 -- the world after a step, which changes nothing where it isn't possible
-abbrev pub after : World → WorldStep → World
+unfoldable pub after : World → WorldStep → World
 after w step = if possible w step then change w step else w
 
 -- the world after all steps, one after the other

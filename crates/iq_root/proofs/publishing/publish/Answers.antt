@@ -1,6 +1,6 @@
 use Rattle.std.proofs.Common.{ap, refl, inl, inr, arith}
-use Rattle.iq_block_store.specs.Frames.{framed}
-use Rattle.iq_root.specs.Roots.{gate_kind, body_kind, gate_place, body_place}
+use Rattle.iq_block_store.specs.Frames.{framed, gate_kind, body_kind}
+use Rattle.iq_root.specs.Roots.{gate_place, body_place}
 use Rattle.iq_root.specs.Publishing.{slot_of}
 use Rattle.iq_root.proofs.SlotLemmas.{slot_refl}
 use Rattle.iq_root.proofs.StepLemmas.{stored_long}
@@ -61,20 +61,20 @@ returns-clause-others g c =
 pub returns-in_err-keep-clause-any_moment : goal.returns-in_err-keep-clause-any_moment
 returns-in_err-keep-clause-any_moment g c =
     let closes = kept_as _ _ _ _ _ _ _ (ap (framed gate_kind (gate_place (slot_of c.args.root.now)) 0) c.gate_page.ensures) c.keep.ensures.kept in
-    λ all last told follows safe. any_first _ c.args.root.now c.body_page-body.ensures.fits all last follows (c.requires all told) _ _ _ closes safe
+    λ all last told follows safe. any_first g.D.Device c.args.root.now c.body_page-body.ensures.fits all last follows (c.requires all told) _ _ _ (g.met.D.Device.stays_whole c.args.disk.now) told closes safe
 
 pub returns-in_err-keep-2-clause-any_moment : goal.returns-in_err-keep-2-clause-any_moment
 returns-in_err-keep-2-clause-any_moment g c =
     let closes = kept_as _ _ _ _ _ _ _ (ap (framed gate_kind (gate_place (slot_of c.args.root.now)) 0) c.gate_page.ensures) c.in_ok-keep.ensures.kept in
     let writes = kept_as _ _ _ _ _ _ _ (ap (framed body_kind (body_place (slot_of c.args.root.now)) 0) c.body_page-body.ensures.page) c.keep-2.ensures.kept in
-    λ all last told follows safe. any_second _ c.args.root.now c.body_page-body.ensures.fits all last follows (c.requires all told) _ _ _ _ _ told closes writes safe
+    λ all last told follows safe. any_second g.D.Device c.args.root.now c.body_page-body.ensures.fits all last follows (c.requires all told) _ _ _ _ _ (g.met.D.Device.stays_whole c.args.disk.now) told closes writes safe
 
 pub returns-clause-any_moment : goal.returns-clause-any_moment
 returns-clause-any_moment g c =
     let closes = kept_as _ _ _ _ _ _ _ (ap (framed gate_kind (gate_place (slot_of c.args.root.now)) 0) c.gate_page.ensures) c.in_ok-keep.ensures.kept in
     let writes = kept_as _ _ _ _ _ _ _ (ap (framed body_kind (body_place (slot_of c.args.root.now)) 0) c.body_page-body.ensures.page) c.in_ok-keep-2.ensures.kept in
     let opens = kept_as _ _ _ _ _ _ _ (ap (framed gate_kind (gate_place (slot_of c.args.root.now)) 0) c.gate_page-2.ensures) c.keep-3.ensures.kept in
-    λ all last told follows safe. any_third _ c.args.root.now c.body_page-body.ensures.fits all last follows (c.requires all told) _ _ _ _ _ _ _ told closes writes opens safe
+    λ all last told follows safe. any_third g.D.Device c.args.root.now c.body_page-body.ensures.fits all last follows (c.requires all told) _ _ _ _ _ _ _ (g.met.D.Device.stays_whole c.args.disk.now) told closes writes opens safe
 
 -- so does an error
 pub returns-in_err-keep-clause-halted : goal.returns-in_err-keep-clause-halted

@@ -1,9 +1,10 @@
 //! Whole runs over streams in memory: what is printed, where and with which status.
-use crate::multiplex;
 use iq_outside::{
-    MemorySink, MemorySource, OpenGate, Sink, Source, SureDevice, SureSink, SureSource,
+    MemorySink, MemorySource, OpenGate, Sink, Source, SureDevice, SureSink, SureSource, read_whole,
 };
+use iq_run::multiplex;
 use std::alloc::Global;
+use std::fmt::Write;
 use std::process::Abort;
 use std::sync::Wait;
 use std::test::Fail;
@@ -166,6 +167,8 @@ fn other_words_are_a_usage_fault(rt: HostRuntime) -> Result<(), Fail> {
         let (status, err) = run(&rt, row, &mut source, &mut sink)?;
         assert_eq!(rt; status, 2, "{row:?}");
         assert!(rt; sink.written().is_empty(), "{row:?}");
+        let left = read_whole(alloc, &mut source, FIRST.len())?;
+        assert_eq!(rt; left.as_slice(), FIRST.as_bytes(), "{row:?}");
         assert!(rt;
             err.written().starts_with(b"usage: iqmux STORE "),
             "{row:?}"
@@ -211,4 +214,35 @@ fn a_script_is_read_up_to_16_mib(rt: HostRuntime) -> Result<(), Fail> {
 fn the_first_line_outside_the_grammar_is_named(rt: HostRuntime) -> Result<(), Fail> {
     let script = b"\nSELECT x FROM t\n-- \nSELEC x FROM t\nSELEC";
     prints(&rt, script, 3, "", "iqmux: line 4 Unbuilt\n")
+}
+
+#[test]
+fn a_run_of_the_grammars_size_prints_each_row(rt: HostRuntime) -> Result<(), Fail> {
+    // 62 lines of 4,096 bytes, each of 1,018 tuples, between a table's making and two queries of it.
+    let alloc = rt.alloc();
+    let mut script = String::from_str(alloc, "CREATE TABLE t (x INT NULL)\n")?;
+    for _ in 0..61 {
+        script.push_str("INSERT INTO t VALUES  (7)")?;
+        for _ in 1..1_018 {
+            script.push_str(",(7)")?;
+        }
+        script.push_str("   \n")?;
+    }
+    script.push_str("SELECT COUNT(*) FROM t\nSELECT x FROM t\n")?;
+    let mut source = SureSource::new(script.as_bytes().to_vec(alloc)?);
+    let mut sink = SureSink::new(alloc);
+    let (status, err) = run(&rt, &["s", "step"], &mut source, &mut sink)?;
+    assert_eq!(rt; status, 0);
+    assert!(rt; err.written().is_empty());
+    let mut says = String::from_str(alloc, "@1 created commit 1\n")?;
+    for line in 2..63u32 {
+        write!(says, "@{line} inserted 1018 commit {line}\n")?;
+    }
+    says.push_str("@63 rows 1\n  62098\n@64 rows 62098\n")?;
+    for _ in 0..62_098 {
+        says.push_str("  7\n")?;
+    }
+    says.push_str("history 254\n#1 begin s 1 0\n")?;
+    assert!(rt; sink.written().starts_with(says.as_bytes()));
+    Ok(())
 }

@@ -3,7 +3,7 @@ use Rattle.std.proofs.Common.{length, ◌∷◌, []}
 use Rattle.std.proofs.lemmas.List.Elements.{All-cons, All-nil}
 use Rattle.iq_model.specs.declared.replies.Reply.{Reply}
 use Rattle.iq_render.specs.Placed.{IsPlacedSaid}
-use Rattle.iq_render.proofs.tests.runs.prints.Goals as goal
+use Rattle.iq_render_tests.proofs.runs.prints.Goals as goal
 
 pub prints_parts-requires : goal.prints_parts-requires
 prints_parts-requires g c =
