@@ -6,6 +6,7 @@
 #![tactic(auto)]
 
 mod cells;
+mod descriptors;
 mod letters;
 mod limits;
 mod lists;
@@ -20,6 +21,7 @@ mod texts;
 mod values;
 
 pub use cells::{BadCell, cell_get, cell_put, is_of, width};
+pub use descriptors::{ColumnPart, Descriptor, IndexPart, IndexSpec};
 pub use letters::Letters;
 pub use limits::row_limit;
 pub use lists::Listed;
