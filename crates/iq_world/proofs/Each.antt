@@ -12,7 +12,8 @@ use Rattle.iq_world.specs.Sound.{IsSound}
 use Rattle.iq_world.specs.Laws.{IsKept, KeepsLive, Reclaims, ReclaimsAt, is_report, WaitsSince, FreesInTime, NotYetPast, IsFreedInTime, NeverFalls, StepLaw, EachStep}
 use Rattle.iq_world.specs.Makes.{AllPossible, Makes}
 use Rattle.iq_world.proofs.Stepping.{good_begin, good_reserve, good_take, good_back, good_end}
-use Rattle.iq_world.proofs.Moving.{good_sync, good_apply, good_send, good_lose, good_restart, good_exclude, good_include}
+use Rattle.iq_world.proofs.Counts.{node_here}
+use Rattle.iq_world.proofs.Moving.{sent_is, good_sync, good_apply, good_send, good_lose, good_restart, good_exclude, good_include}
 use Rattle.iq_world.proofs.Reclaiming.{good_own, good_report_taken, reclaims}
 use Rattle.iq_world.proofs.Waiting.{freed_past, early_base, goes_on, waits_held}
 use Rattle.iq_world.proofs.Committing.{good_commit}
@@ -123,18 +124,20 @@ report_reclaims w (Exclude n) e = absurd (false≢true e)
 report_reclaims w (Include n) e = absurd (false≢true e)
 
 -- the law of one step
-in_time : (w v : World) (step : WorldStep) → Good w v → (is_report w step ≡ true → Reclaims w v) → (is_report w step ≡ false → v.base ≡ w.base) → FreesInTime w step v
-in_time w v step good reports kept =
+in_time : (w : World) (step : WorldStep) → IsSound w → FreesInTime w step
+in_time w step g =
+    let v = after w step in
+    let good = good_step w step g in
     record {
-      freed = λ b c waits e past. freed_past w v b c (reports e) waits past;
+      freed = λ b c waits at. freed_past w v b c (report_reclaims w step at.0) waits at.1;
       waits =
           λ b c waits early.
           let P : Bool → Type 0 = λ t. is_report w step ≡ t → WaitsSince v b c in
           (elim (is_report w step) as P [
-            | true ↦ λ e. goes_on w v b c good waits (early_base w v c (reports e) waits.past_base (early e))
-            | false ↦ λ e. goes_on w v b c good waits (let same = kept e in let past = waits.past_base in omega arith)
+            | true ↦ λ e. goes_on w v b c good waits (early_base w v c (report_reclaims w step e) waits.past_base (λ past. early (e, past)))
+            | false ↦ λ e. goes_on w v b c good waits (let same = base_kept w step e in let past = waits.past_base in omega arith)
           ]) refl;
-      base = kept;
+      base = λ e. base_kept w step e;
     }
 
 pub keeps_live : (w : World) → IsSound w → KeepsLive w
@@ -156,7 +159,7 @@ step_law w step g =
           };
       live = live;
       reclaims = reclaims_at w step;
-      in_time = in_time w v step good (λ e. report_reclaims w step e) (λ e. base_kept w step e);
+      in_time = in_time w step g;
       rises = good.rises;
       reach = good.reach;
     }
@@ -186,8 +189,8 @@ freed_in_time w b c g waits =
     record {
       not_before = λ steps early. waits_held (after_all w steps) b c (sound_all w steps g) (waits_on w b c steps g waits early);
       at_once =
-          λ steps step early report past.
-          (step_law (after_all w steps) step (sound_all w steps g)).in_time.freed b c (waits_on w b c steps g waits early) report past;
+          λ steps step early at.
+          (step_law (after_all w steps) step (sound_all w steps g)).in_time.freed b c (waits_on w b c steps g waits early) at;
     }
 
 -- nothing falls over any list of steps
@@ -239,3 +242,12 @@ makes_then u v w xs ys first second =
 -- what they make of a sound world is sound
 pub makes_sound : (old new : World) (steps : List WorldStep) → IsSound old → Makes old steps new → IsSound new
 makes_sound old new steps g m = subst IsSound (sym m.is) (sound_all old steps g)
+
+-- the taken floor after a report is taken
+pub taken_floor : (w : World) (k : ℕ) → IsSound w → possible w (TakeReport k) ≡ true → (node_at (after w (TakeReport k)) (report_of w k).node).taken ≡ max (node_at w (report_of w k).node).taken (report_of w k).floor
+unfolding after change
+taken_floor w k g can =
+    let n = (report_of w k).node in
+    let x = record (node_at w n) { taken = max (node_at w n).taken (report_of w k).floor } in
+    let known = (sent_is w k can g).0.known in
+    subst (λ (t : Bool). (node_at (cond t (report_taken w k) w) n).taken ≡ x.taken) (sym can) (ap (λ (y : WorldNode). y.taken) (node_here w n x known))

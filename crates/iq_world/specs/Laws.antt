@@ -71,23 +71,29 @@ pub record WaitsSince (w : World) (b c : ℕ) : Type 0 where
   pub made : c ≤ latest_of w
   pub gone : 0 < times b (dropped w.reach c)
 
--- at a report that is taken a waiting block is free if every node that counts is past its drop then; at any other step, and if
--- some node isn't past it, it goes on waiting. Only a report moves the base
-pub record FreesInTime (old : World) (step : WorldStep) (new : World) : Type 0 where
-  pub freed : (b c : ℕ) → WaitsSince old b c → is_report old step ≡ true → IsPast new c → 0 < times b new.free
-  pub waits : (b c : ℕ) → WaitsSince old b c → (is_report old step ≡ true → IsPast new c → ⊥) → WaitsSince new b c
-  pub base : is_report old step ≡ false → new.base ≡ old.base
+-- the step is a report that is taken, and at its end every node that counts is past the commit
+abbrev pub IsReportPast : World → WorldStep → ℕ → Type 0
+IsReportPast w step c = (is_report w step ≡ true) × IsPast (after w step) c
 
--- at no report of a list that is taken is every node that counts past the commit
+-- at a report a waiting block is free if every node that counts is past its drop at the end; at any other step, and if some node
+-- isn't past it, it goes on waiting. Only a report moves the base
+pub record FreesInTime (w : World) (step : WorldStep) : Type 0 where
+  pub freed : (b c : ℕ) → WaitsSince w b c → IsReportPast w step c → 0 < times b (after w step).free
+  pub waits : (b c : ℕ) → WaitsSince w b c → (IsReportPast w step c → ⊥) → WaitsSince (after w step) b c
+  pub base : is_report w step ≡ false → (after w step).base ≡ w.base
+
+-- at the end of no report of a list is every node that counts past the commit
 abbrev pub NotYetPast : World → List WorldStep → ℕ → Type 0
 NotYetPast w [] c = Unit {0}
-NotYetPast w (step ∷ steps) c = (is_report w step ≡ true → IsPast (after w step) c → ⊥) × NotYetPast (after w step) steps c
+NotYetPast w (step ∷ steps) c = (IsReportPast w step c → ⊥) × NotYetPast (after w step) steps c
 
--- the block, which was dropped at the commit, is free at the end of the first report that is taken at which every node that counts
--- is past its drop, and neither free, reserved nor private before
+-- the block, which was dropped at the commit, is free at the end of the first report at which every node that counts is past its
+-- drop, and neither free, reserved nor private before
 pub record IsFreedInTime (w : World) (b c : ℕ) : Type 0 where
   pub not_before : (steps : List WorldStep) → NotYetPast w steps c → times_loose (after_all w steps) b ≡ 0
-  pub at_once : (steps : List WorldStep) (step : WorldStep) → NotYetPast w steps c → is_report (after_all w steps) step ≡ true → IsPast (after (after_all w steps) step) c → 0 < times b (after (after_all w steps) step).free
+  pub at_once :
+      (steps : List WorldStep) (step : WorldStep) → NotYetPast w steps c → IsReportPast (after_all w steps) step c
+      → 0 < times b (after (after_all w steps) step).free
 
 -- from one world to the next no commit is unmade and no node lost, and no floor, no taken floor, not the horizon and not the base
 -- falls
@@ -118,7 +124,7 @@ pub record StepLaw (w : World) (step : WorldStep) : Type 0 where
   pub spares : Spares w (after w step)
   pub live : KeepsLive (after w step)
   pub reclaims : ReclaimsAt w step
-  pub in_time : FreesInTime w step (after w step)
+  pub in_time : FreesInTime w step
   pub rises : NeverFalls w (after w step)
   pub reach : KeepsReach w (after w step)
 

@@ -1,9 +1,10 @@
 //! Laws of worlds, for layers above that keep the same world in another form. Each is the contract of a function that does
 //! nothing.
-ghost use Rattle.std.specs.Prelude.{◌≡◌, ℕ, ◌≤◌, ◌↔◌, true, List, [], ◌∷◌, ◌++◌};
+ghost use Rattle.std.specs.Prelude.{◌≡◌, ℕ, ◌<◌, ◌≤◌, ◌↔◌, true, max, length, List, [], ◌∷◌, ◌++◌};
 ghost use Rattle.iq_world.specs.declared.worlds.World.{World};
 ghost use Rattle.iq_world.specs.declared.worlds.WorldStep.{WorldStep};
-ghost use Rattle.iq_world.specs.declared.worlds.WorldStep.TheVariants.{Commit};
+ghost use Rattle.iq_world.specs.declared.worlds.WorldStep.TheVariants.{Commit, TakeReport};
+ghost use Rattle.iq_world.specs.World.{node_at, report_of};
 ghost use Rattle.iq_world.specs.Floors.{horizon_of, IsPast};
 ghost use Rattle.iq_world.specs.Space.{times_loose};
 ghost use Rattle.iq_world.specs.Steps.{possible, change, after, after_all};
@@ -34,6 +35,15 @@ pub fn the_horizon_is_the_latest_that_all_are_past()
 pub fn a_dropped_block_is_freed_in_time()
     ensures over_all_steps { (w : World) (b c : ℕ) → IsSound w → WaitsSince w b c → IsFreedInTime w b c }
     ensures waits { (w : World) (b c : ℕ) → IsSound w → WaitsSince w b c → times_loose w b ≡ 0 }
+{}
+
+/// The taken floor of a node is the greatest that was ever taken: a report raises it to its floor, and nothing lets it fall.
+pub fn a_taken_floor_is_the_greatest()
+    ensures raised { (w : World) (k : ℕ) → IsSound w → possible w (TakeReport k) ≡ true
+        → (node_at (after w (TakeReport k)) (report_of w k).node).taken
+        ≡ max (node_at w (report_of w k).node).taken (report_of w k).floor }
+    ensures kept { (w : World) (step : WorldStep) (n : ℕ) → IsSound w → n < length w.nodes
+        → (node_at w n).taken ≤ (node_at (after w step) n).taken }
 {}
 
 /// Over every list of steps no commit is unmade, and neither a floor nor a taken floor nor the horizon nor the base falls.

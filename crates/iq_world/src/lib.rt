@@ -1,8 +1,10 @@
 //! Versions, reports and space, as plain lists of block numbers over every list of steps.
 //!
-//! Contracts see a `World` as the record of its lists, and a step as the change that `after` of specs/Steps names. Below
-//! stand `iq_base` and `iq_floors`, whose words floors and the horizon are; above stand the layers that keep the same world in counted form and are compared with it. Its one law:
-//! from a sound world every list of steps leads to a sound world, and no block that a live snapshot reaches is free.
+//! Contracts see a `World` as the record of its lists, and a step as the change that `after` of specs/Steps names. Below stand
+//! `iq_base` and `iq_floors`, which says floors and the horizon; above stands `iq_state_tests`. A layer that keeps the same
+//! world in another form says by `Makes` which steps a call makes, and cites the laws of src/laws. Its one law: from a sound
+//! world every list of steps leads to a sound world, no block that a live snapshot reaches is free or written, and a dropped
+//! block is free at the first report past its drop.
 #![tactic(auto)]
 
 mod floors;
@@ -15,8 +17,6 @@ mod reads;
 mod reclaim;
 mod space;
 mod steps;
-#[cfg(test)]
-mod tests;
 mod worlds;
 
 pub use fold::{after, world_law};
