@@ -15,7 +15,7 @@ use Rattle.iq_parse.specs.declared.tokens.Token.TheVariants.{Mark, Name, Other, 
 use Rattle.iq_parse.specs.Tokens.{◌>>=◌, same_mark}
 use Rattle.iq_parse.specs.Grammar.{listed, column_spelling, value_spelling, tuple_spelling, item_spelling}
 use Rattle.iq_parse.specs.Reading.{Taken, taken, mark_at, name_at, value_at, list_at, tuple_at, int_column, column_at, columns_at, plain_at, count_at, items_from, items_at}
-use Rattle.iq_parse.proofs.Steps.{AreTokens, bind_some, read_as, chosen_some, Takes, Takes-then, mark_takes, mark_again, name_takes, name_again}
+use Rattle.iq_parse.proofs.Steps.{AreTokens, bind_some, read_as, chosen_some, Begins, Begins-then, mark_takes, mark_again, name_takes, name_again}
 use Rattle.iq_parse.proofs.ListLaws.{listed_takes, list_again}
 
 -- a mark that comes first is no other mark
@@ -33,15 +33,15 @@ chosen_mark : (k : TheMark) (ts : List Token) → same_mark k Null ≡ true → 
 unfolding mark_at
 chosen_mark k ts h = rw h refl
 
-pub value_takes : (ts : List Token) (x : Taken Value) → AreTokens ts → value_at ts ≡ Some x → Takes ts (value_spelling x.value) x.rest × IsCell x.value
+pub value_takes : (ts : List Token) (x : Taken Value) → AreTokens ts → value_at ts ≡ Some x → Begins ts (value_spelling x.value) x.rest × IsCell x.value
 unfolding value_at
 value_takes [] x sound e = absurd cc
 value_takes (Number n ∷ ts) x sound e =
-    read_as (λ (y : Taken Value). Takes (Number n ∷ ts) (value_spelling y.value) y.rest × IsCell y.value) (taken (value.Int n) ts) x e (record { parts = refl; sound = sound.1 }, sound.0)
+    read_as (λ (y : Taken Value). Begins (Number n ∷ ts) (value_spelling y.value) y.rest × IsCell y.value) (taken (value.Int n) ts) x e (record { parts = refl; sound = sound.1 }, sound.0)
 value_takes (Mark k ∷ ts) x sound e =
     let c = chosen_some (same_mark k Null) (taken value.Null ts) x e in
-    let gone : Takes (Mark k ∷ ts) (Mark Null ∷ []) ts = mark_takes Null (Mark k ∷ ts) ts sound (chosen_mark k ts c.0) in
-    subst (λ (y : Taken Value). Takes (Mark k ∷ ts) (value_spelling y.value) y.rest × IsCell y.value) c.1 (gone, tt)
+    let gone : Begins (Mark k ∷ ts) (Mark Null ∷ []) ts = mark_takes Null (Mark k ∷ ts) ts sound (chosen_mark k ts c.0) in
+    subst (λ (y : Taken Value). Begins (Mark k ∷ ts) (value_spelling y.value) y.rest × IsCell y.value) c.1 (gone, tt)
 value_takes (Name name ∷ ts) x sound e = absurd cc
 value_takes (Other ∷ ts) x sound e = absurd cc
 
@@ -58,7 +58,7 @@ value_long (value.Text text) = omega arith
 
 -- ---- tuples
 
-pub tuple_takes : (ts : List Token) (x : Taken (List Value)) → AreTokens ts → tuple_at ts ≡ Some x → Takes ts (tuple_spelling x.value) x.rest × IsTuple x.value
+pub tuple_takes : (ts : List Token) (x : Taken (List Value)) → AreTokens ts → tuple_at ts ≡ Some x → Begins ts (tuple_spelling x.value) x.rest × IsTuple x.value
 unfolding tuple_at
 tuple_takes ts x sound e =
     let a = bind_some (mark_at Open ts) (λ opened. list_at value_at opened >>= λ values. mark_at Close values.rest >>= λ closed. Some (taken values.value closed)) x e in
@@ -67,10 +67,10 @@ tuple_takes ts x sound e =
     let t0 = mark_takes Open ts a.0 sound a.1 in
     let t1 = listed_takes value_at value_spelling IsCell value_takes (length a.0) a.0 b.0 t0.sound b.1 in
     let t2 = mark_takes Close b.0.rest c.0 t1.takes.sound c.1 in
-    let e12 = Takes-then a.0 (listed value_spelling b.0.value) b.0.rest (Mark Close ∷ []) c.0 t1.takes t2 in
-    let e02 : Takes ts (tuple_spelling b.0.value) c.0 = Takes-then ts (Mark Open ∷ []) a.0 (listed value_spelling b.0.value ++ Mark Close ∷ []) c.0 t0 e12 in
+    let e12 = Begins-then a.0 (listed value_spelling b.0.value) b.0.rest (Mark Close ∷ []) c.0 t1.takes t2 in
+    let e02 : Begins ts (tuple_spelling b.0.value) c.0 = Begins-then ts (Mark Open ∷ []) a.0 (listed value_spelling b.0.value ++ Mark Close ∷ []) c.0 t0 e12 in
     let made : IsTuple b.0.value = record { some = t1.some; each = t1.each } in
-    read_as (λ (y : Taken (List Value)). Takes ts (tuple_spelling y.value) y.rest × IsTuple y.value) (taken b.0.value c.0) x c.2 (e02, made)
+    read_as (λ (y : Taken (List Value)). Begins ts (tuple_spelling y.value) y.rest × IsTuple y.value) (taken b.0.value c.0) x c.2 (e02, made)
 
 pub tuple_again : (values : List Value) (rest : List Token) → IsTuple values → tuple_at (tuple_spelling values ++ rest) ≡ Some (taken values rest)
 unfolding tuple_at
@@ -84,7 +84,7 @@ tuple_long values = omega arith
 
 -- ---- columns
 
-pub column_takes : (ts : List Token) (x : Taken Column) → AreTokens ts → column_at ts ≡ Some x → Takes ts (column_spelling x.value) x.rest × IsIntColumn x.value
+pub column_takes : (ts : List Token) (x : Taken Column) → AreTokens ts → column_at ts ≡ Some x → Begins ts (column_spelling x.value) x.rest × IsIntColumn x.value
 unfolding column_at
 column_takes ts x sound e =
     let a = bind_some (name_at ts) (λ name. mark_at Int name.rest >>= λ typed. mark_at Null typed >>= λ nullable. Some (taken (int_column name.value) nullable)) x e in
@@ -93,10 +93,10 @@ column_takes ts x sound e =
     let t0 = name_takes ts a.0 sound a.1 in
     let t1 = mark_takes Int a.0.rest b.0 t0.0.sound b.1 in
     let t2 = mark_takes Null b.0 c.0 t1.sound c.1 in
-    let e12 = Takes-then a.0.rest (Mark Int ∷ []) b.0 (Mark Null ∷ []) c.0 t1 t2 in
-    let e02 : Takes ts (column_spelling (int_column a.0.value)) c.0 = Takes-then ts (Name a.0.value ∷ []) a.0.rest (Mark Int ∷ Mark Null ∷ []) c.0 t0.0 e12 in
+    let e12 = Begins-then a.0.rest (Mark Int ∷ []) b.0 (Mark Null ∷ []) c.0 t1 t2 in
+    let e02 : Begins ts (column_spelling (int_column a.0.value)) c.0 = Begins-then ts (Name a.0.value ∷ []) a.0.rest (Mark Int ∷ Mark Null ∷ []) c.0 t0.0 e12 in
     let made : IsIntColumn (int_column a.0.value) = record { name = t0.1; kind = refl; null = refl } in
-    read_as (λ (y : Taken Column). Takes ts (column_spelling y.value) y.rest × IsIntColumn y.value) (taken (int_column a.0.value) c.0) x c.2 (e02, made)
+    read_as (λ (y : Taken Column). Begins ts (column_spelling y.value) y.rest × IsIntColumn y.value) (taken (int_column a.0.value) c.0) x c.2 (e02, made)
 
 -- a column of numbers is known by its name
 int_column_is : (column : Column) → IsIntColumn column → int_column column.name ≡ column
@@ -110,7 +110,7 @@ column_again column rest fits =
 column_long : (column : Column) → 0 < length (column_spelling column)
 column_long column = omega arith
 
-pub columns_take : (ts : List Token) (x : Taken (List Column)) → AreTokens ts → columns_at ts ≡ Some x → Takes ts (listed column_spelling x.value) x.rest × AreColumns x.value
+pub columns_take : (ts : List Token) (x : Taken (List Column)) → AreTokens ts → columns_at ts ≡ Some x → Begins ts (listed column_spelling x.value) x.rest × AreColumns x.value
 unfolding columns_at
 columns_take ts x sound e =
     let a = bind_some (list_at column_at ts) (λ columns. cond (leb (length columns.value) 32 && differ columns.value) (Some columns) None) x e in
@@ -118,7 +118,7 @@ columns_take ts x sound e =
     let t = listed_takes column_at column_spelling IsIntColumn column_takes (length ts) ts a.0 sound a.1 in
     let both = and_parts _ _ c.0 in
     let made : AreColumns a.0.value = record { some = t.some; few = leb-true _ _ both.0; each = t.each; distinct = both.1 } in
-    subst (λ (y : Taken (List Column)). Takes ts (listed column_spelling y.value) y.rest × AreColumns y.value) c.1 (t.takes, made)
+    subst (λ (y : Taken (List Column)). Begins ts (listed column_spelling y.value) y.rest × AreColumns y.value) c.1 (t.takes, made)
 
 pub columns_again : (columns : List Column) (rest : List Token) → AreColumns columns → columns_at (listed column_spelling columns ++ Mark Close ∷ rest) ≡ Some (taken columns (Mark Close ∷ rest))
 unfolding columns_at
@@ -128,12 +128,12 @@ columns_again columns rest fits =
 
 -- ---- items
 
-plain_takes : (ts : List Token) (x : Taken Item) → AreTokens ts → plain_at ts ≡ Some x → Takes ts (item_spelling x.value) x.rest × IsPlain x.value
+plain_takes : (ts : List Token) (x : Taken Item) → AreTokens ts → plain_at ts ≡ Some x → Begins ts (item_spelling x.value) x.rest × IsPlain x.value
 unfolding plain_at
 plain_takes ts x sound e =
     let a = bind_some (name_at ts) (λ name. Some (taken (item.Plain name.value) name.rest)) x e in
     let t = name_takes ts a.0 sound a.1 in
-    read_as (λ (y : Taken Item). Takes ts (item_spelling y.value) y.rest × IsPlain y.value) (taken (item.Plain a.0.value) a.0.rest) x a.2 t
+    read_as (λ (y : Taken Item). Begins ts (item_spelling y.value) y.rest × IsPlain y.value) (taken (item.Plain a.0.value) a.0.rest) x a.2 t
 
 plain_again : (i : Item) (rest : List Token) → IsPlain i → plain_at (item_spelling i ++ rest) ≡ Some (taken i rest)
 unfolding plain_at
@@ -152,7 +152,7 @@ item_long (item.Sum name) = omega arith
 item_long (item.Min name) = omega arith
 item_long (item.Max name) = omega arith
 
-count_takes : (ts : List Token) (x : Taken (List Item)) → AreTokens ts → count_at ts ≡ Some x → Takes ts (Mark Open ∷ Mark Star ∷ Mark Close ∷ []) x.rest × (x.value ≡ item.CountAll ∷ [])
+count_takes : (ts : List Token) (x : Taken (List Item)) → AreTokens ts → count_at ts ≡ Some x → Begins ts (Mark Open ∷ Mark Star ∷ Mark Close ∷ []) x.rest × (x.value ≡ item.CountAll ∷ [])
 unfolding count_at
 count_takes ts x sound e =
     let a = bind_some (mark_at Open ts) (λ opened. mark_at Star opened >>= λ star. mark_at Close star >>= λ closed. Some (taken (item.CountAll ∷ []) closed)) x e in
@@ -161,9 +161,9 @@ count_takes ts x sound e =
     let t0 = mark_takes Open ts a.0 sound a.1 in
     let t1 = mark_takes Star a.0 b.0 t0.sound b.1 in
     let t2 = mark_takes Close b.0 c.0 t1.sound c.1 in
-    let e12 = Takes-then a.0 (Mark Star ∷ []) b.0 (Mark Close ∷ []) c.0 t1 t2 in
-    let e02 = Takes-then ts (Mark Open ∷ []) a.0 (Mark Star ∷ Mark Close ∷ []) c.0 t0 e12 in
-    read_as (λ (y : Taken (List Item)). Takes ts (Mark Open ∷ Mark Star ∷ Mark Close ∷ []) y.rest × (y.value ≡ item.CountAll ∷ [])) (taken (item.CountAll ∷ []) c.0) x c.2 (e02, refl)
+    let e12 = Begins-then a.0 (Mark Star ∷ []) b.0 (Mark Close ∷ []) c.0 t1 t2 in
+    let e02 = Begins-then ts (Mark Open ∷ []) a.0 (Mark Star ∷ Mark Close ∷ []) c.0 t0 e12 in
+    read_as (λ (y : Taken (List Item)). Begins ts (Mark Open ∷ Mark Star ∷ Mark Close ∷ []) y.rest × (y.value ≡ item.CountAll ∷ [])) (taken (item.CountAll ∷ []) c.0) x c.2 (e02, refl)
 
 -- items that are plain one by one are items
 plain_items : (items : List Item) → 0 < length items → AllByRecursion IsPlain items → AreItems items
@@ -175,17 +175,17 @@ plain_items (item.Sum name ∷ items) some each = absurd each.0
 plain_items (item.Min name ∷ items) some each = absurd each.0
 plain_items (item.Max name ∷ items) some each = absurd each.0
 
-from_takes : (o : Option (List Token)) (ts : List Token) (x : Taken (List Item)) → AreTokens ts → mark_at Count ts ≡ o → items_from o ts ≡ Some x → Takes ts (listed item_spelling x.value) x.rest × AreItems x.value
+from_takes : (o : Option (List Token)) (ts : List Token) (x : Taken (List Item)) → AreTokens ts → mark_at Count ts ≡ o → items_from o ts ≡ Some x → Begins ts (listed item_spelling x.value) x.rest × AreItems x.value
 from_takes None ts x sound is e =
     let t = listed_takes plain_at item_spelling IsPlain plain_takes (length ts) ts x sound e in
     (t.takes, plain_items x.value t.some t.each)
 from_takes (Some counted) ts x sound is e =
     let t0 = mark_takes Count ts counted sound is in
     let t1 = count_takes counted x t0.sound e in
-    let both : Takes ts (listed item_spelling (item.CountAll ∷ [])) x.rest = Takes-then ts (Mark Count ∷ []) counted (Mark Open ∷ Mark Star ∷ Mark Close ∷ []) x.rest t0 t1.0 in
-    subst (λ (items : List Item). Takes ts (listed item_spelling items) x.rest × AreItems items) (sym t1.1) (both, refl)
+    let both : Begins ts (listed item_spelling (item.CountAll ∷ [])) x.rest = Begins-then ts (Mark Count ∷ []) counted (Mark Open ∷ Mark Star ∷ Mark Close ∷ []) x.rest t0 t1.0 in
+    subst (λ (items : List Item). Begins ts (listed item_spelling items) x.rest × AreItems items) (sym t1.1) (both, refl)
 
-pub items_take : (ts : List Token) (x : Taken (List Item)) → AreTokens ts → items_at ts ≡ Some x → Takes ts (listed item_spelling x.value) x.rest × AreItems x.value
+pub items_take : (ts : List Token) (x : Taken (List Item)) → AreTokens ts → items_at ts ≡ Some x → Begins ts (listed item_spelling x.value) x.rest × AreItems x.value
 unfolding items_at
 items_take ts x sound e = from_takes (mark_at Count ts) ts x sound refl e
 

@@ -20,20 +20,20 @@ use Rattle.iq_parse.specs.declared.tokens.Token.TheVariants.{Mark, Name, Other, 
 use Rattle.iq_parse.specs.Tokens.{◌>>=◌, same_mark, tokens_of}
 use Rattle.iq_parse.specs.Grammar.{listed, column_spelling, tuple_spelling, item_spelling, spelling, Spells, IsStatementOf, IsOff}
 use Rattle.iq_parse.specs.Reading.{Taken, taken, Gives, mark_at, name_at, list_at, tuple_at, columns_at, items_at, create_at, insert_at, plain_select, select_at, statement_at, is_end, statement_of, read}
-use Rattle.iq_parse.proofs.Steps.{AreTokens, bind_some, some_is, read_as, chosen_some, Takes, Takes-then, mark_takes, mark_again, name_takes, name_again}
+use Rattle.iq_parse.proofs.Steps.{AreTokens, bind_some, some_is, read_as, chosen_some, Begins, Begins-then, mark_takes, mark_again, name_takes, name_again}
 use Rattle.iq_parse.proofs.ListLaws.{listed_takes, list_again}
 use Rattle.iq_parse.proofs.PartLaws.{tuple_takes, tuple_again, tuple_long, columns_take, columns_again, items_take, items_again}
 use Rattle.iq_parse.proofs.Sound.{tokens_sound}
 
 -- what was read from the front is a statement of the grammar, and was spelled so
-abbrev TakesStatement : List Token → Taken Statement → Type 0
-TakesStatement ts x = Takes ts (spelling x.value) x.rest × IsBuilt x.value
+abbrev BeginsStatement : List Token → Taken Statement → Type 0
+BeginsStatement ts x = Begins ts (spelling x.value) x.rest × IsBuilt x.value
 
 -- the first word of a statement
-first_word : (m : TheMark) (ts : List Token) → AreTokens ts → Takes (Mark m ∷ ts) (Mark m ∷ []) ts
+first_word : (m : TheMark) (ts : List Token) → AreTokens ts → Begins (Mark m ∷ ts) (Mark m ∷ []) ts
 first_word m ts sound = record { parts = refl; sound = sound }
 
-create_takes : (ts : List Token) (x : Taken Statement) → AreTokens ts → create_at ts ≡ Some x → TakesStatement (Mark Create ∷ ts) x
+create_takes : (ts : List Token) (x : Taken Statement) → AreTokens ts → create_at ts ≡ Some x → BeginsStatement (Mark Create ∷ ts) x
 unfolding create_at
 create_takes ts x sound e =
     let a = bind_some (mark_at Table ts) (λ table. name_at table >>= λ name. mark_at Open name.rest >>= λ opened. columns_at opened >>= λ columns. mark_at Close columns.rest >>= λ closed. Some (taken (statement.Write (write.CreateTable name.value (record { columns = columns.value }))) closed)) x e in
@@ -47,15 +47,15 @@ create_takes ts x sound e =
     let t3 = columns_take c.0 d.0 t2.sound d.1 in
     let t4 = mark_takes Close d.0.rest f.0 t3.0.sound f.1 in
     let columns = listed column_spelling d.0.value in
-    let e34 = Takes-then c.0 columns d.0.rest (Mark Close ∷ []) f.0 t3.0 t4 in
-    let e24 = Takes-then b.0.rest (Mark Open ∷ []) c.0 (columns ++ Mark Close ∷ []) f.0 t2 e34 in
-    let e14 = Takes-then a.0 (Name b.0.value ∷ []) b.0.rest (Mark Open ∷ (columns ++ Mark Close ∷ [])) f.0 t1.0 e24 in
-    let e04 = Takes-then ts (Mark Table ∷ []) a.0 (Name b.0.value ∷ Mark Open ∷ (columns ++ Mark Close ∷ [])) f.0 t0 e14 in
+    let e34 = Begins-then c.0 columns d.0.rest (Mark Close ∷ []) f.0 t3.0 t4 in
+    let e24 = Begins-then b.0.rest (Mark Open ∷ []) c.0 (columns ++ Mark Close ∷ []) f.0 t2 e34 in
+    let e14 = Begins-then a.0 (Name b.0.value ∷ []) b.0.rest (Mark Open ∷ (columns ++ Mark Close ∷ [])) f.0 t1.0 e24 in
+    let e04 = Begins-then ts (Mark Table ∷ []) a.0 (Name b.0.value ∷ Mark Open ∷ (columns ++ Mark Close ∷ [])) f.0 t0 e14 in
     let made : Taken Statement = taken (statement.Write (write.CreateTable b.0.value (record { columns = d.0.value }))) f.0 in
-    let whole : Takes (Mark Create ∷ ts) (spelling made.value) f.0 = Takes-then (Mark Create ∷ ts) (Mark Create ∷ []) ts (Mark Table ∷ Name b.0.value ∷ Mark Open ∷ (columns ++ Mark Close ∷ [])) f.0 (first_word Create ts sound) e04 in
-    read_as (TakesStatement (Mark Create ∷ ts)) made x f.2 (whole, (t1.1, t3.1))
+    let whole : Begins (Mark Create ∷ ts) (spelling made.value) f.0 = Begins-then (Mark Create ∷ ts) (Mark Create ∷ []) ts (Mark Table ∷ Name b.0.value ∷ Mark Open ∷ (columns ++ Mark Close ∷ [])) f.0 (first_word Create ts sound) e04 in
+    read_as (BeginsStatement (Mark Create ∷ ts)) made x f.2 (whole, (t1.1, t3.1))
 
-insert_takes : (ts : List Token) (x : Taken Statement) → AreTokens ts → insert_at ts ≡ Some x → TakesStatement (Mark Insert ∷ ts) x
+insert_takes : (ts : List Token) (x : Taken Statement) → AreTokens ts → insert_at ts ≡ Some x → BeginsStatement (Mark Insert ∷ ts) x
 unfolding insert_at
 insert_takes ts x sound e =
     let a = bind_some (mark_at Into ts) (λ into. name_at into >>= λ table. mark_at Values table.rest >>= λ values. list_at tuple_at values >>= λ rows. Some (taken (statement.Write (write.Insert table.value rows.value)) rows.rest)) x e in
@@ -67,15 +67,15 @@ insert_takes ts x sound e =
     let t2 = mark_takes Values b.0.rest c.0 t1.0.sound c.1 in
     let t3 = listed_takes tuple_at tuple_spelling IsTuple tuple_takes (length c.0) c.0 d.0 t2.sound d.1 in
     let rows = listed tuple_spelling d.0.value in
-    let e23 = Takes-then b.0.rest (Mark Values ∷ []) c.0 rows d.0.rest t2 t3.takes in
-    let e13 = Takes-then a.0 (Name b.0.value ∷ []) b.0.rest (Mark Values ∷ rows) d.0.rest t1.0 e23 in
-    let e03 = Takes-then ts (Mark Into ∷ []) a.0 (Name b.0.value ∷ Mark Values ∷ rows) d.0.rest t0 e13 in
+    let e23 = Begins-then b.0.rest (Mark Values ∷ []) c.0 rows d.0.rest t2 t3.takes in
+    let e13 = Begins-then a.0 (Name b.0.value ∷ []) b.0.rest (Mark Values ∷ rows) d.0.rest t1.0 e23 in
+    let e03 = Begins-then ts (Mark Into ∷ []) a.0 (Name b.0.value ∷ Mark Values ∷ rows) d.0.rest t0 e13 in
     let made : Taken Statement = taken (statement.Write (write.Insert b.0.value d.0.value)) d.0.rest in
-    let whole : Takes (Mark Insert ∷ ts) (spelling made.value) d.0.rest = Takes-then (Mark Insert ∷ ts) (Mark Insert ∷ []) ts (Mark Into ∷ Name b.0.value ∷ Mark Values ∷ rows) d.0.rest (first_word Insert ts sound) e03 in
+    let whole : Begins (Mark Insert ∷ ts) (spelling made.value) d.0.rest = Begins-then (Mark Insert ∷ ts) (Mark Insert ∷ []) ts (Mark Into ∷ Name b.0.value ∷ Mark Values ∷ rows) d.0.rest (first_word Insert ts sound) e03 in
     let tuples : AreTuples d.0.value = record { some = t3.some; each = t3.each } in
-    read_as (TakesStatement (Mark Insert ∷ ts)) made x d.2 (whole, (t1.1, tuples))
+    read_as (BeginsStatement (Mark Insert ∷ ts)) made x d.2 (whole, (t1.1, tuples))
 
-select_takes : (ts : List Token) (x : Taken Statement) → AreTokens ts → select_at ts ≡ Some x → TakesStatement (Mark Select ∷ ts) x
+select_takes : (ts : List Token) (x : Taken Statement) → AreTokens ts → select_at ts ≡ Some x → BeginsStatement (Mark Select ∷ ts) x
 unfolding select_at
 select_takes ts x sound e =
     let a = bind_some (items_at ts) (λ items. mark_at From items.rest >>= λ from. name_at from >>= λ table. Some (taken (plain_select items.value table.value) table.rest)) x e in
@@ -85,14 +85,14 @@ select_takes ts x sound e =
     let t1 = mark_takes From a.0.rest b.0 t0.0.sound b.1 in
     let t2 = name_takes b.0 c.0 t1.sound c.1 in
     let items = listed item_spelling a.0.value in
-    let e12 = Takes-then a.0.rest (Mark From ∷ []) b.0 (Name c.0.value ∷ []) c.0.rest t1 t2.0 in
-    let e02 = Takes-then ts items a.0.rest (Mark From ∷ Name c.0.value ∷ []) c.0.rest t0.0 e12 in
+    let e12 = Begins-then a.0.rest (Mark From ∷ []) b.0 (Name c.0.value ∷ []) c.0.rest t1 t2.0 in
+    let e02 = Begins-then ts items a.0.rest (Mark From ∷ Name c.0.value ∷ []) c.0.rest t0.0 e12 in
     let made : Taken Statement = taken (plain_select a.0.value c.0.value) c.0.rest in
-    let whole : Takes (Mark Select ∷ ts) (spelling made.value) c.0.rest = Takes-then (Mark Select ∷ ts) (Mark Select ∷ []) ts (items ++ Mark From ∷ Name c.0.value ∷ []) c.0.rest (first_word Select ts sound) e02 in
+    let whole : Begins (Mark Select ∷ ts) (spelling made.value) c.0.rest = Begins-then (Mark Select ∷ ts) (Mark Select ∷ []) ts (items ++ Mark From ∷ Name c.0.value ∷ []) c.0.rest (first_word Select ts sound) e02 in
     let plain : IsBuilt made.value = record { table = t2.1; items = t0.1; explain = refl; cond = refl; group = refl; order = refl } in
-    read_as (TakesStatement (Mark Select ∷ ts)) made x c.2 (whole, plain)
+    read_as (BeginsStatement (Mark Select ∷ ts)) made x c.2 (whole, plain)
 
-statement_takes : (ts : List Token) (x : Taken Statement) → AreTokens ts → statement_at ts ≡ Some x → TakesStatement ts x
+statement_takes : (ts : List Token) (x : Taken Statement) → AreTokens ts → statement_at ts ≡ Some x → BeginsStatement ts x
 unfolding statement_at
 statement_takes [] x sound e = absurd cc
 statement_takes (Mark Create ∷ ts) x sound e = create_takes ts x sound.1 e

@@ -38,17 +38,17 @@ pub chosen_some : {A : Type 0} (b : Bool) (x : A) (y : A) → cond b (Some x) No
 chosen_some true x y e = (refl, cc)
 chosen_some false x y e = absurd cc
 
--- what a reader took from the front
-pub record Takes (tokens text rest : List Token) : Type 0 where
+-- the tokens begin with a text, and the rest are tokens
+pub record Begins (tokens text rest : List Token) : Type 0 where
   pub parts : tokens ≡ text ++ rest
   pub sound : AreTokens rest
 
-pub Takes-then : (a x b y c : List Token) → Takes a x b → Takes b y c → Takes a (x ++ y) c
-Takes-then a x b y c p q = record { parts = p.parts ∙ ap (λ (t : List Token). x ++ t) q.parts ∙ sym (append_assoc x y c); sound = q.sound }
+pub Begins-then : (a x b y c : List Token) → Begins a x b → Begins b y c → Begins a (x ++ y) c
+Begins-then a x b y c p q = record { parts = p.parts ∙ ap (λ (t : List Token). x ++ t) q.parts ∙ sym (append_assoc x y c); sound = q.sound }
 
 -- ---- marks
 
-pub mark_takes : (m : TheMark) (ts rest : List Token) → AreTokens ts → mark_at m ts ≡ Some rest → Takes ts (Mark m ∷ []) rest
+pub mark_takes : (m : TheMark) (ts rest : List Token) → AreTokens ts → mark_at m ts ≡ Some rest → Begins ts (Mark m ∷ []) rest
 unfolding mark_at same_mark
 mark_takes m [] rest sound e = absurd cc
 mark_takes m (Mark k ∷ ts) rest sound e =
@@ -65,12 +65,12 @@ mark_again m rest = rw (true_same the_type m m refl) refl
 
 -- ---- names
 
-pub name_takes : (ts : List Token) (x : Taken (List ℕ)) → AreTokens ts → name_at ts ≡ Some x → Takes ts (Name x.value ∷ []) x.rest × IsName x.value
+pub name_takes : (ts : List Token) (x : Taken (List ℕ)) → AreTokens ts → name_at ts ≡ Some x → Begins ts (Name x.value ∷ []) x.rest × IsName x.value
 unfolding name_at
 name_takes [] x sound e = absurd cc
 name_takes (Mark k ∷ ts) x sound e = absurd cc
 name_takes (Name name ∷ ts) x sound e =
-    read_as (λ (y : Taken (List ℕ)). Takes (Name name ∷ ts) (Name y.value ∷ []) y.rest × IsName y.value) (taken name ts) x e (record { parts = refl; sound = sound.1 }, sound.0)
+    read_as (λ (y : Taken (List ℕ)). Begins (Name name ∷ ts) (Name y.value ∷ []) y.rest × IsName y.value) (taken name ts) x e (record { parts = refl; sound = sound.1 }, sound.0)
 name_takes (Other ∷ ts) x sound e = absurd cc
 name_takes (Number n ∷ ts) x sound e = absurd cc
 

@@ -16,6 +16,8 @@ use Rattle.iq_parse.specs.declared.tokens.Mark.{Mark as TheMark}
 use Rattle.iq_parse.specs.declared.tokens.Mark.TheVariants.{Create, Table, Insert, Into, Values, Select, From, Count, Int, Null, Open, Close, Comma, Star, Semicolon}
 use Rattle.iq_parse.specs.declared.tokens.Token.{Token}
 use Rattle.iq_parse.specs.declared.tokens.Token.TheVariants.{Mark, Name, Number}
+use Rattle.iq_parse.specs.declared.statements.TheConstants.{MOST_COLUMNS}
+use Rattle.iq_parse.specs.declared.texts.TheConstants.{MOST_TEXT}
 use Rattle.iq_parse.specs.Tokens.{◌>>=◌, same_mark, tokens_of}
 
 -- what was read, and the tokens after it
@@ -90,11 +92,11 @@ column_at ts = do
   nullable ← mark_at Null typed
   Some (taken (int_column name.value) nullable)
 
--- columns that a table may have: at most 32, no name twice
+-- columns that a table may have: not too many, no name twice
 unfoldable pub columns_at : List Token → Option (Taken (List Column))
 columns_at ts = do
   columns ← list_at column_at ts
-  if nat_le (length columns.value) 32 && differ columns.value then Some columns else None
+  if nat_le (length columns.value) MOST_COLUMNS && differ columns.value then Some columns else None
 
 -- a column's name as an item
 unfoldable pub plain_at : List Token → Option (Taken Item)
@@ -168,6 +170,6 @@ statement_of ts = do
   statement ← statement_at ts
   if is_end statement.rest then Some statement.value else None
 
--- the statement that a text of at most 4,096 bytes is
+-- the statement that a text is, if it is short enough
 unfoldable pub read : List ℕ → Option Statement
-read text = if nat_le (length text) 4096 then (tokens_of text >>= statement_of) else None
+read text = if nat_le (length text) MOST_TEXT then (tokens_of text >>= statement_of) else None

@@ -14,7 +14,8 @@ use crate::words::marked;
 use iq_base::Name;
 use std::alloc::Global;
 
-fn is_space(b: u8) -> bool
+/// Whether a byte is a blank, a space or a tab, which may stand between tokens.
+pub fn is_space(b: u8) -> bool
     ensures { result ≡ spec.is_space b }
 {
     b == b' ' || b == b'\t'

@@ -16,4 +16,6 @@ mod tokens;
 mod words;
 
 pub use faults::ParseFault;
-pub use texts::{one_statement, parse};
+pub use lexer::is_space;
+pub use statements::MOST_COLUMNS;
+pub use texts::{MOST_TEXT, one_statement, parse};

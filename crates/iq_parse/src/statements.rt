@@ -13,7 +13,7 @@ use iq_base::{Column, Listed, Name, Row, Schema};
 use std::alloc::Global;
 
 /// The most columns that a table may have.
-const MOST_COLUMNS: usize = 32;
+pub const MOST_COLUMNS: usize = 32;
 
 fn has_column(columns: &[Column], name: &Name) -> bool
     ensures { result ≡ has_column columns.now name.now }

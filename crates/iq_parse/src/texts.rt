@@ -13,13 +13,13 @@ use iq_ast::Statement;
 use std::alloc::Global;
 
 /// The most bytes that a statement's text may have.
-const MOST_BYTES: usize = 4_096;
+pub const MOST_TEXT: usize = 4_096;
 
 #[tactic(auto, unfolding(crate::specs::Reading::read))]
 fn read(alloc: Global, text: &[u8]) -> Result<Statement, ParseFault>
     ensures { Gives (λ s. s) result (spec.read text.now) }
 {
-    if text.len() <= MOST_BYTES {
+    if text.len() <= MOST_TEXT {
         let tokens = tokens(alloc, text)?;
         return statement(alloc, tokens.as_slice());
     }

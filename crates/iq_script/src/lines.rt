@@ -1,14 +1,9 @@
 //! Cuts bytes into lines.
 ghost use Rattle.std.specs.Prelude.{◌≡◌, ◌≢◌, ℕ, ◌<◌, ◌≤◌, ◌∷◌, length, not, nat_eq};
 ghost use Rattle.std.specs.List.{prefix_len};
-ghost use Rattle.iq_parse.specs.Tokens as tokens;
 ghost use Rattle.iq_script.specs.Lines as spec;
 
-fn is_space(b: u8) -> bool
-    ensures { result ≡ tokens.is_space b }
-{
-    b == b' ' || b == b'\t'
-}
+use iq_parse::is_space;
 
 /// How many bytes stand before the first LF.
 fn piece_len(bytes: &[u8]) -> usize
