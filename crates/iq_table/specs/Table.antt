@@ -100,5 +100,5 @@ abbrev pub GivesRows : (ℕ → Option Pages) → ℕ → Table → List ℕ →
 GivesRows told place table columns got = (rows : List (List Value)) → TableStands told place table rows → got ≡ map (projected columns) rows
 
 -- how many pages the rows take in some columns
-abbrev pub pages_of : List Column → ℕ → List ℕ → ℕ
-pages_of columns slots chosen = sum_by (λ (c : ℕ). pages_for (kind_at c columns) slots) chosen
+abbrev pub page_count : List Column → ℕ → List ℕ → ℕ
+page_count columns slots chosen = sum_by (λ (c : ℕ). pages_for (kind_at c columns) slots) chosen

@@ -12,6 +12,14 @@ use crate::table::{kind_at, object_of};
 use iq_base::{Column, Kind, Row};
 use iq_pages::{PageFault, PageSink};
 
+/// Where the values of a column go: its object, what the column holds, and the column's place in a row.
+#[derive(Clone, Copy)]
+pub struct ColumnAt {
+    pub object: u32,
+    pub kind: Kind,
+    pub column: usize,
+}
+
 /// Puts the values of rows behind the last ones of all columns. Each page is written once.
 pub fn append_to_columns<S: PageSink>(
     sink: &mut S,
@@ -31,14 +39,12 @@ pub fn append_to_columns<S: PageSink>(
     ensures cause { IfErr result (HasTableCause (S.told sink.old) place columns.now slots (S.faults sink.old) (S.faults sink.new)) }
 {
     for c in 0..columns.len() {
-        append_to_object(
-            sink,
-            object_of(place, c),
-            kind_at(columns, c),
-            slots,
-            rows,
-            c,
-        )?;
+        let at = ColumnAt {
+            object: object_of(place, c),
+            kind: kind_at(columns, c),
+            column: c,
+        };
+        append_to_object(sink, at, slots, rows)?;
     }
     Ok(())
 }
@@ -46,34 +52,25 @@ pub fn append_to_columns<S: PageSink>(
 /// Puts the values that rows have in a column behind the last one of an object. Each page is written once.
 pub fn append_to_object<S: PageSink>(
     sink: &mut S,
-    object: u32,
-    kind: Kind,
+    at: ColumnAt,
     count: u32,
     rows: &[Row],
-    column: usize,
 ) -> Result<(), PageFault>
-    requires can { CanHoldAll kind column rows.now }
+    requires can { CanHoldAll at.kind at.column rows.now }
     requires small { count + length rows.now < 2 ^ 32 }
-    requires limit { count + length rows.now ≤ limit_for (text_length kind) }
-    ensures ok { OnOk result (Appends kind count (column_of column rows.now) (S.told sink.old object) (S.told sink.new object)) }
-    ensures kept { OnErr result (KeepsValues kind count (S.told sink.old object) (S.told sink.new object)) }
-    ensures others { KeepsOthers object (S.told sink.old) (S.told sink.new) (S.counts sink.old) (S.counts sink.new) }
+    requires limit { count + length rows.now ≤ limit_for (text_length at.kind) }
+    ensures ok { OnOk result (Appends at.kind count (column_of at.column rows.now) (S.told sink.old at.object) (S.told sink.new at.object)) }
+    ensures kept { OnErr result (KeepsValues at.kind count (S.told sink.old at.object) (S.told sink.new at.object)) }
+    ensures others { KeepsOthers at.object (S.told sink.old) (S.told sink.new) (S.counts sink.old) (S.counts sink.new) }
     ensures later { S.faults sink.old ≤ S.faults sink.new }
-    ensures cause { IfErr result (HasColumnCause (S.told sink.old object) kind object count (S.faults sink.old) (S.faults sink.new)) }
+    ensures cause { IfErr result (HasColumnCause (S.told sink.old at.object) at.kind at.object count (S.faults sink.old) (S.faults sink.new)) }
 {
-    let per = cells_per_page(kind);
+    let per = cells_per_page(at.kind);
     let mut done = 0;
     'pages: while done < rows.len() {
         let row = count as usize + done;
         let here = (per - row % per).min(rows.len() - done);
-        append_to_page(
-            sink,
-            object,
-            kind,
-            row as u32,
-            &rows[done..done + here],
-            column,
-        )?;
+        append_to_page(sink, at, row as u32, &rows[done..done + here])?;
         done += here;
     }
     Ok(())
@@ -82,27 +79,25 @@ pub fn append_to_object<S: PageSink>(
 /// Puts the values that rows have in a column behind the last one of an object, in one page.
 fn append_to_page<S: PageSink>(
     sink: &mut S,
-    object: u32,
-    kind: Kind,
+    at: ColumnAt,
     count: u32,
     rows: &[Row],
-    column: usize,
 ) -> Result<(), PageFault>
-    requires can { CanHoldAll kind column rows.now }
-    requires fits { count % per_page kind + length rows.now ≤ per_page kind }
-    requires room { count / per_page kind < 63504 }
-    ensures ok { OnOk result (Appends kind count (column_of column rows.now) (S.told sink.old object) (S.told sink.new object)) }
-    ensures others { KeepsOthers object (S.told sink.old) (S.told sink.new) (S.counts sink.old) (S.counts sink.new) }
+    requires can { CanHoldAll at.kind at.column rows.now }
+    requires fits { count % per_page at.kind + length rows.now ≤ per_page at.kind }
+    requires room { count / per_page at.kind < 63504 }
+    ensures ok { OnOk result (Appends at.kind count (column_of at.column rows.now) (S.told sink.old at.object) (S.told sink.new at.object)) }
+    ensures others { KeepsOthers at.object (S.told sink.old) (S.told sink.new) (S.counts sink.old) (S.counts sink.new) }
     ensures err_told { OnErr result (S.told sink.new ≡ S.told sink.old) }
     ensures err_counts { OnErr result (S.counts sink.new ≡ S.counts sink.old) }
     ensures later { S.faults sink.old ≤ S.faults sink.new }
-    ensures cause { IfErr result (HasColumnCause (S.told sink.old object) kind object count (S.faults sink.old) (S.faults sink.new)) }
+    ensures cause { IfErr result (HasColumnCause (S.told sink.old at.object) at.kind at.object count (S.faults sink.old) (S.faults sink.new)) }
 {
-    let per = cells_per_page(kind);
+    let per = cells_per_page(at.kind);
     let first = count as usize % per;
     let n = (count as usize / per) as u32;
     let mut page = [0; 1008];
-    load_page(sink, object, n, first, &mut page)?;
-    fill(kind, rows, column, &mut page, first);
-    save_page(sink, object, n, &page)
+    load_page(sink, at.object, n, first, &mut page)?;
+    fill(at.kind, rows, at.column, &mut page, first);
+    save_page(sink, at.object, n, &page)
 }

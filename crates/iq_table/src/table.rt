@@ -3,7 +3,7 @@ ghost use Rattle.std.specs.Prelude.{◌≡◌, ◌<◌, ◌≤◌, ℕ, ◌+◌,
 ghost use Rattle.iq_pages.specs.Pages.{CountsMore};
 ghost use Rattle.iq_base.specs.Limits.{row_limit};
 ghost use Rattle.iq_table.specs.Reading.{pages_for};
-ghost use Rattle.iq_table.specs.Table.{kind_at, object_of, AreRowsOf, Stands, TableStands, Gains, Keeps, KeepsTheRest, TellsObjects, GivesValues, GivesRows, pages_of, HasTableCause, HasMakeCause};
+ghost use Rattle.iq_table.specs.Table.{kind_at, object_of, AreRowsOf, Stands, TableStands, Gains, Keeps, KeepsTheRest, TellsObjects, GivesValues, GivesRows, page_count, HasTableCause, HasMakeCause};
 
 use crate::append::append_to_columns;
 use crate::read::read_object;
@@ -112,7 +112,7 @@ impl Table {
         ensures ok { IfOk result (λ rows. GivesRows (S.told source.old) place self.now columns.now rows.items) }
         ensures told { S.told source.new ≡ S.told source.old }
         ensures counts { S.counts source.new ≡ S.counts source.old }
-        ensures reads { OnOk result (CountsMore (pages_of self.now.schema.columns self.now.slots columns.now) (S.reads source.old) (S.reads source.new)) }
+        ensures reads { OnOk result (CountsMore (page_count self.now.schema.columns self.now.slots columns.now) (S.reads source.old) (S.reads source.new)) }
         ensures later { S.faults source.old ≤ S.faults source.new }
         ensures cause { IfErr result (HasTableCause (S.told source.old) place self.now.schema.columns self.now.slots (S.faults source.old) (S.faults source.new)) }
     {

@@ -6,8 +6,8 @@ use Rattle.iq_table.proofs.append.append_to_object.Given as goal
 abbrev pub invariant-pages : goal.invariant-pages
 invariant-pages g l = record {
   within : l.done ≤ length l.rows;
-  held : Appends l.kind l.count (column_of l.column (take l.done l.rows)) (g.S.PageSource.told l.fn.sink l.object) (g.S.PageSource.told l.sink l.object);
-  others : KeepsOthers l.object (g.S.PageSource.told l.fn.sink) (g.S.PageSource.told l.sink) (g.S.PageSource.counts l.fn.sink) (g.S.PageSource.counts l.sink);
+  held : Appends l.at.kind l.count (column_of l.at.column (take l.done l.rows)) (g.S.PageSource.told l.fn.sink l.at.object) (g.S.PageSource.told l.sink l.at.object);
+  others : KeepsOthers l.at.object (g.S.PageSource.told l.fn.sink) (g.S.PageSource.told l.sink) (g.S.PageSource.counts l.fn.sink) (g.S.PageSource.counts l.sink);
   later : g.S.PageSource.faults l.fn.sink ≤ g.S.PageSource.faults l.sink;
 }
 
