@@ -8,8 +8,6 @@
 mod blocks;
 mod frames;
 mod store_faults;
-#[cfg(test)]
-mod tests;
 
 pub use blocks::{BlockFault, read, write};
 pub use frames::{BODY, DESCRIPTOR, GATE, MAP, PAGE, frame, has_header, number_at};

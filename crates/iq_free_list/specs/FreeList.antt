@@ -1,5 +1,6 @@
 -- What a list of free blocks is.
 use Rattle.std.specs.Prelude.{◌≡◌, ℕ, ◌+◌, ◌<◌, Bool, true, false, List, [], ◌∷◌, length, fold, nat_lt, nat_eq, ◌^◌, if◌then◌else◌, slice_index_or, All}
+use Rattle.iq_bitmap.specs.Bits.{rows_from}
 
 -- how many blocks there are, and the free ones in ascending order
 pub record Free : Type 0 where
@@ -11,15 +12,9 @@ abbrev pub IsAscending : List ℕ → Type 0
 IsAscending [] = Unit {0}
 IsAscending (block ∷ blocks) = All (λ b. block < b) blocks × IsAscending blocks
 
--- the numbers of the set bits, from a number on
-abbrev pub set_from : ℕ → List Bool → List ℕ
-set_from i [] = []
-set_from i (true ∷ bits) = i ∷ set_from (i + 1) bits
-set_from i (false ∷ bits) = set_from (i + 1) bits
-
 -- so many bits, and the numbers of those that are set
 abbrev pub free_of : List Bool → Free
-free_of bits = record { count = length bits; blocks = set_from 0 bits }
+free_of bits = record { count = length bits; blocks = rows_from 0 bits }
 
 -- a number put into its place in an ascending list, where it isn't in it yet
 abbrev pub put : ℕ → List ℕ → List ℕ
@@ -37,5 +32,5 @@ bit_of bits i = slice_index_or bits i false
 -- no bit below the hint is set, and so many are set
 pub record IsHinted (bits : List Bool) (hint count : ℕ) : Type 0 where
   pub below : (i : ℕ) → i < hint → bit_of bits i ≡ false
-  pub counted : count ≡ length (set_from 0 bits)
+  pub counted : count ≡ length (rows_from 0 bits)
   pub few : length bits < 2 ^ 32

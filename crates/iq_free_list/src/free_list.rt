@@ -1,5 +1,6 @@
 //! The list of free blocks.
-ghost use Rattle.std.specs.Prelude.{◌≡◌, ◌<◌, [], ◌∷◌, length, take, drop, min, All, IfOk, MatchOption, IfSome, IsTrue, ◌↔◌};
+ghost use Rattle.std.specs.Prelude.{◌≡◌, ◌<◌, [], ◌∷◌, length, take, drop, min, All, IfOk, MatchOption, IfSome, IsTrue, nat_eq, ◌↔◌};
+ghost use Rattle.std.specs.List.{IsDistinct};
 ghost use Rattle.iq_free_list.specs.FreeList.{put, put_all, IsAscending};
 
 use iq_base::NoMemory;
@@ -98,6 +99,15 @@ impl FreeList {
         ensures within { All (λ b. b < self.now.count) self.now.blocks }
     {
         self.len
+    }
+
+    /// Does nothing: the free blocks ascend, so that each stands once, and are blocks that there are.
+    pub fn are_in_order(&self)
+        ensures ascending { IsAscending self.now.blocks }
+        ensures distinct { IsDistinct nat_eq self.now.blocks }
+        ensures within { All (λ b. b < self.now.count) self.now.blocks }
+    {
+        let _ = self.len();
     }
 
     /// Whether no block is free.

@@ -6,7 +6,5 @@
 #![tactic(auto)]
 
 mod free_list;
-#[cfg(test)]
-mod tests;
 
 pub use free_list::FreeList;

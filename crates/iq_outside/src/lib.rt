@@ -21,8 +21,6 @@ mod sink;
 mod source;
 mod std_streams;
 mod sure_device;
-#[cfg(test)]
-mod tests;
 mod writing;
 
 pub use calls::Calls;

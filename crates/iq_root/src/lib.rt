@@ -13,8 +13,6 @@ mod pages;
 mod publishing;
 mod root;
 mod steps;
-#[cfg(test)]
-mod tests;
 
 pub use addresses::Addresses;
 pub use formatting::format;

@@ -1,12 +1,12 @@
 use Rattle.std.proofs.Common.{◌∙◌, sym, arith}
-use Rattle.iq_free_list.proofs.BitLemmas.{set_from_again, set_from_put, give_fits, give_hinted}
+use Rattle.iq_free_list.proofs.BitLemmas.{rows_from_again, rows_from_put, give_fits, give_hinted}
 use Rattle.iq_free_list.proofs.free_list.FreeList.give.Goals as goal
 
 pub returns-then-get-clause-given : goal.returns-then-get-clause-given
 returns-then-get-clause-given c =
     let within = rw (← c.self.view_is) at c.requires in
     let set = sym c.get.ensures ∙ c.if-get.true in
-    rw (← c.self.view_is) (set_from_again c.self.inside.bits c.args.block within set)
+    rw (← c.self.view_is) (rows_from_again c.self.inside.bits c.args.block within set)
 
 pub overflow_add-self : goal.overflow_add-self
 overflow_add-self c =
@@ -24,4 +24,4 @@ invariant_of-self c =
 pub returns-clause-given : goal.returns-clause-given
 returns-clause-given c =
     let within = rw (← c.self.view_is) at c.requires in
-    rw (← c.self.view_is, c.set.ensures) (set_from_put c.self.inside.bits c.args.block within)
+    rw (← c.self.view_is, c.set.ensures) (rows_from_put c.self.inside.bits c.args.block within)

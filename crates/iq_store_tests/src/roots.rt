@@ -1,6 +1,6 @@
-//! What no clause says: that calls succeed, and the bytes of an empty store.
-use super::*;
+//! Roots that are published and read again, also where a run stops, and the bytes of an empty store.
 use iq_outside::{Block, Device, FuseDevice, MemoryDevice, Pick, SureDevice};
+use iq_root::{Addresses, Root, RootFault, format, newest_root, publish};
 use std::alloc::{AllocError, Global};
 use std::test::Fail;
 
@@ -72,6 +72,77 @@ fn a_stop_within_publish_leaves_the_last_root_or_the_new_one(rt: HostRuntime) ->
             (*done, Some(*torn)),
         ];
         assert_eq!(rt; left, wanted, "{calls} calls");
+    }
+    Ok(())
+}
+
+/// What a stop leaves, after so many calls, of a device that publishes a root of this generation.
+fn left(
+    disk: &SureDevice,
+    alloc: Global,
+    generation: u64,
+    calls: u64,
+    pick: Pick,
+) -> Result<Option<SureDevice>, AllocError> {
+    let blocks = disk.blocks().to_vec(alloc)?;
+    if blocks.len() > 12 {
+        return Ok(None);
+    }
+    let mut fuse = FuseDevice::new(blocks, calls);
+    let _ = put(&mut fuse, &root(generation, 2));
+    Ok(Some(fuse.crash(pick)))
+}
+
+/// The generation of the newest root, or 0.
+fn newest(disk: &mut SureDevice) -> u64 {
+    newest_root(disk).ok().map_or(0, |root| root.generation)
+}
+
+/// Stops once while generation 2 is published, and once more while the next root after what was left is. Answers whether each
+/// stop left the last root or the new one, and the new one where publishing was done.
+fn goes_on(
+    alloc: Global,
+    calls: u64,
+    first: Pick,
+    again: u64,
+    second: Pick,
+) -> Result<bool, AllocError> {
+    let Some(mut once) = left(&store(alloc), alloc, 2, calls, first)? else {
+        return Ok(false);
+    };
+    let last = newest(&mut once);
+    let next = last.saturating_add(1);
+    let Some(mut twice) = left(&once, alloc, next, again, second)? else {
+        return Ok(false);
+    };
+    let new = newest(&mut twice);
+    Ok((last == 1 || last == 2) && (new == next || new == last && again < 7))
+}
+
+#[test]
+fn two_stops_leave_the_last_root_or_the_new_one(rt: HostRuntime) -> Result<(), Fail> {
+    let picks = [
+        (Pick::Old, Pick::Old),
+        (Pick::Old, Pick::New),
+        (Pick::Old, Pick::Torn),
+        (Pick::New, Pick::Old),
+        (Pick::New, Pick::New),
+        (Pick::New, Pick::Torn),
+        (Pick::Torn, Pick::Old),
+        (Pick::Torn, Pick::New),
+        (Pick::Torn, Pick::Torn),
+    ];
+    // How many calls pass before the first stop, and how many before the second.
+    for calls in 0..64 {
+        for (first, second) in picks.iter() {
+            let right = goes_on(rt.alloc(), calls / 8, *first, calls % 8, *second)?;
+            assert!(rt;
+                right,
+                "{} and {} calls, {first:?} and {second:?}",
+                calls / 8,
+                calls % 8
+            );
+        }
     }
     Ok(())
 }

@@ -1,5 +1,5 @@
-//! What no clause says: that calls succeed, and the bytes of a header.
-use super::*;
+//! The bytes of a header, and the counts of a fault.
+use iq_block_store::{BlockFault, read, write};
 use iq_outside::{Block, Device, MemoryDevice, SureDevice};
 use std::test::Fail;
 

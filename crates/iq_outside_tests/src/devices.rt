@@ -1,5 +1,5 @@
 //! Devices.
-use crate::*;
+use iq_outside::{Block, Device, Failed, FileDevice, FuseDevice, MemoryDevice, Pick, SureDevice};
 use std::alloc::{AllocError, Global};
 use std::fs;
 use std::test::Fail;
@@ -134,5 +134,29 @@ fn a_file_keeps_blocks_at_their_places(rt: HostRuntime) -> Result<(), Fail> {
     let mut odd = FileDevice::new(&rt, String::from_str(alloc, "odd.iq")?);
     assert_eq!(rt; passed(&mut odd, &[Count]), 0);
     assert_eq!(rt; odd.faults(), 1);
+    Ok(())
+}
+
+/// Sets the file's length and counts, and then counts by a device that opens it anew.
+fn counts(rt: &HostRuntime, blocks: u32) -> Result<[bool; 2], AllocError> {
+    let alloc = rt.alloc();
+    let mut file = FileDevice::new(rt, String::from_str(alloc, "long.iq")?);
+    let kept = passed(&mut file, &[Resize(blocks), Count]) == 2;
+    let mut again = FileDevice::new(rt, String::from_str(alloc, "long.iq")?);
+    Ok([kept, again.count() == Ok(blocks)])
+}
+
+#[test]
+fn a_file_has_at_most_a_gigabyte(rt: HostRuntime) -> Result<(), Fail> {
+    // A file without bytes takes no room. How many blocks it is long, and whether that is counted.
+    let rows: [(u32, bool); 4] = [
+        (1_048_576, true),
+        (1_048_577, false),
+        (2_000_000, false),
+        (3, true),
+    ];
+    for (blocks, right) in rows.iter() {
+        assert_eq!(rt; counts(&rt, *blocks)?, [*right, *right], "{blocks} blocks");
+    }
     Ok(())
 }

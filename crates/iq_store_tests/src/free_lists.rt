@@ -1,6 +1,6 @@
-//! What no clause says.
-use super::*;
+//! Which blocks are taken first.
 use iq_base::NoMemory;
+use iq_free_list::FreeList;
 use std::alloc::Global;
 use std::test::Fail;
 
