@@ -3,6 +3,7 @@ pub mod ObjectLemmas
 pub mod ReadLemmas
 pub mod PutLemmas
 pub mod EditLemmas
+pub mod TouchLemmas
 pub mod LeafLemmas
 pub mod StepLemmas
 pub mod NextLemmas
@@ -10,4 +11,5 @@ pub mod RewriteLemmas
 pub mod NamedLemmas
 pub mod TopLemmas
 pub mod ReachLemmas
+pub mod PageLemmas
 pub mod FrameLaws

@@ -1,8 +1,10 @@
 -- What was written, one call after the other.
-use Rattle.std.specs.Prelude.{◌≡◌, ℕ, ◌-◌, ◌<◌, ◌≤◌, Bool, true, false, ◌||◌, List, [], ◌∷◌, ◌++◌, length, take, nat_eq, Option, Some, slice_index, slice_set, Result, Ok, Err}
+use Rattle.std.specs.Prelude.{◌≡◌, ℕ, ◌-◌, ◌<◌, ◌≤◌, Bool, true, false, ◌||◌, List, [], ◌∷◌, ◌++◌, length, take, nat_eq, Option, Some, slice_index, slice_index_or, slice_set, Result, Ok, Err}
+use Rattle.std.specs.List.{All}
 use Rattle.std.proofs.Common.{refl, sym, ap, ◌∙◌, inl, inr, arith, append_assoc, length-append}
 use Rattle.std.proofs.lemmas.List.{take_at}
-use Rattle.std.proofs.lemmas.Bool.{eq-eqb, cases_lt, ltb-true, and_parts}
+use Rattle.std.proofs.lemmas.Bool.{eq-eqb, cases_lt, le-leb, lt-ltb}
+use Rattle.iq_outside.specs.declared.device.Device.{Ghosts}
 use Rattle.iq_outside.specs.Devices.{SameBut, KeepsPast, HasWritten, Stored}
 use Rattle.iq_outside.proofs.ImageLemmas.{SameBut-set}
 use Rattle.iq_block_store.specs.Looks.{HasLooked}
@@ -52,10 +54,9 @@ beside_of_but at a b same = record {
 }
 
 -- no block was taken, and the device was only looked at
-pub put_none : {D : Type 0} (blocks : D → Option (List (List ℕ))) (faults : D → ℕ) (tells : D → Bool) (clock : D → ℕ)
-    (image : D → ℕ → List (List ℕ) → Type 0) (left : List ℕ) (old new : D) → HasLooked blocks faults tells clock image old new
-    → HasPut blocks faults tells clock image left left old new
-put_none blocks faults tells clock image left old new looked =
+pub put_none : {D : Type 0} (g : Ghosts D) (left : List ℕ) (old new : D) → HasLooked g.blocks g.faults g.tells g.clock g.image old new
+    → HasPut g left left old new
+put_none g left old new looked =
     let none : taken_of left left ≡ [] = taken_front left [] left refl in
     record {
       left = sym (ap (λ (t : List ℕ). t ++ left) none);
@@ -90,11 +91,10 @@ since_then clock image tells xs ys old between new past_first past_second first 
     ]
 
 -- one call after another
-pub put_then : {D : Type 0} (blocks : D → Option (List (List ℕ))) (faults : D → ℕ) (tells : D → Bool) (clock : D → ℕ)
-    (image : D → ℕ → List (List ℕ) → Type 0) (before mid after : List ℕ) (old between new : D)
-    → HasPut blocks faults tells clock image before mid old between → HasPut blocks faults tells clock image mid after between new
-    → HasPut blocks faults tells clock image before after old new
-put_then blocks faults tells clock image before mid after old between new first second =
+pub put_then : {D : Type 0} (g : Ghosts D) (before mid after : List ℕ) (old between new : D)
+    → HasPut g before mid old between → HasPut g mid after between new
+    → HasPut g before after old new
+put_then g before mid after old between new first second =
     let xs = taken_of before mid in
     let ys = taken_of mid after in
     let split : before ≡ (xs ++ ys) ++ after
@@ -108,19 +108,18 @@ put_then blocks faults tells clock image before mid after old between new first 
           (two.0, two.1, rw both (beside_more xs ys all one.0 two.0 one.2 two.2));
       untold = λ never. second.untold (first.untold never);
       later = omega (arith, first.later, second.later);
-      past = past_then tells clock image old between new first.past second.past;
-      since = rw both (since_then clock image tells xs ys old between new first.past second.past first.since second.since);
+      past = past_then g.tells g.clock g.image old between new first.past second.past;
+      since = rw both (since_then g.clock g.image g.tells xs ys old between new first.past second.past first.since second.since);
     }
 
 -- a block was taken and written, well or not
-pub put_one : {D U E : Type 0} (blocks : D → Option (List (List ℕ))) (faults : D → ℕ) (tells : D → Bool) (clock : D → ℕ)
-    (image : D → ℕ → List (List ℕ) → Type 0) (at : ℕ) (block before after : List ℕ) (result : Result U E) (old new : D) → before ≡ at ∷ after
-    → HasWritten blocks faults tells clock image at block result old new → HasPut blocks faults tells clock image before after old new
-put_one blocks faults tells clock image at block before after result old new is written =
+pub put_one : {D U E : Type 0} (g : Ghosts D) (at : ℕ) (block before after : List ℕ) (result : Result U E) (old new : D) → before ≡ at ∷ after
+    → HasWritten g.blocks g.faults g.tells g.clock g.image at block result old new → HasPut g before after old new
+put_one g at block before after result old new is written =
     let one : taken_of before after ≡ at ∷ [] = taken_front before (at ∷ []) after is in
     record {
       left = is ∙ ap (λ (t : List ℕ). t ++ after) (sym one);
-      content = λ all told. rw one (put_content result at block (blocks old) (blocks new) written.content all told);
+      content = λ all told. rw one (put_content result at block (g.blocks old) (g.blocks new) written.content all told);
       untold = written.content.untold;
       later = written.counts.later;
       past = written.past;
@@ -138,26 +137,41 @@ put_one blocks faults tells clock image at block before after result old new is 
         (failed.0, failed.1, beside_of_but at all failed.0 failed.2)
 
 -- a device that nothing was done to
-pub looked_same : {D : Type 0} (blocks : D → Option (List (List ℕ))) (faults : D → ℕ) (tells : D → Bool) (clock : D → ℕ)
-    (image : D → ℕ → List (List ℕ) → Type 0) (now : D) → HasLooked blocks faults tells clock image now now
-looked_same blocks faults tells clock image now = record {
+pub looked_same : {D : Type 0} (g : Ghosts D) (now : D) → HasLooked g.blocks g.faults g.tells g.clock g.image now now
+looked_same g now = record {
   unchanged = refl;
   later = omega arith;
   past = record { same = refl; later = omega arith; keeps = λ t b early left. left; no_more = λ t b early left. left };
   since = λ t b since until left. rw (← same t since until) left;
 }
   where
-    same : (t : ℕ) → clock now ≤ t → t ≤ clock now → t ≡ clock now
+    same : (t : ℕ) → g.clock now ≤ t → t ≤ g.clock now → t ≡ g.clock now
     same t since until = omega (arith, since, until)
+
+-- a number behind the roots and within a store is an address
+pub address_is : (count a : ℕ) → 4 ≤ a → a < count → is_address count a ≡ true
+address_is count a above below = rw (le-leb 4 a above, lt-ltb a count below) refl
+
+-- blocks that may be taken are addresses of the store that is told
+pub spare_inside : (told : Option (List (List ℕ))) (all : List (List ℕ)) (left : List ℕ) → AreSpare told left → told ≡ Some all
+    → All (λ b. is_address (length all) b ≡ true) left
+spare_inside told all left spare is k d within =
+    address_is (length all) (slice_index_or left k d) (spare.above k d within) (spare.below all is k d within)
 
 -- the first of the blocks that may be taken is in the store
 pub first_inside : (told : Option (List (List ℕ))) (all : List (List ℕ)) (at : ℕ) (before after : List ℕ) → AreSpare told before → told ≡ Some all
     → before ≡ at ∷ after → at < length all
 first_inside told all at before after spare is head =
     let some : 0 < length before = omega (arith, ap length head) in
-    let first : is_address (length all) (slice_index before 0) ≡ true = spare.inside all is 0 0 some in
-    let address : is_address (length all) at ≡ true = ap (λ (xs : List ℕ). is_address (length all) (slice_index xs 0)) (sym head) ∙ first in
-    ltb-true _ _ (and_parts _ _ address).1
+    let first : slice_index before 0 < length all = spare.below all is 0 0 some in
+    omega (arith, first, ap (λ (xs : List ℕ). slice_index xs 0) head)
+
+-- and behind the roots
+pub first_above : (told : Option (List (List ℕ))) (at : ℕ) (before after : List ℕ) → AreSpare told before → before ≡ at ∷ after → 4 ≤ at
+first_above told at before after spare head =
+    let some : 0 < length before = omega (arith, ap length head) in
+    let first : 4 ≤ slice_index before 0 = spare.above 0 0 some in
+    omega (arith, first, ap (λ (xs : List ℕ). slice_index xs 0) head)
 
 -- a block that was written well is in its place
 pub written_ok : {U E : Type 0} (result : Result U E) (at : ℕ) (block : List ℕ) (old new : Option (List (List ℕ))) {u : U} → result ≡ Ok u
@@ -170,15 +184,14 @@ pub told_same : (old new : Option (List (List ℕ))) (now all : List (List ℕ))
 told_same old new now all same is told = cc
 
 -- looking once more
-pub looked_then : {D : Type 0} (blocks : D → Option (List (List ℕ))) (faults : D → ℕ) (tells : D → Bool) (clock : D → ℕ)
-    (image : D → ℕ → List (List ℕ) → Type 0) (old between new : D) → HasLooked blocks faults tells clock image old between
-    → HasLooked blocks faults tells clock image between new → HasLooked blocks faults tells clock image old new
-looked_then blocks faults tells clock image old between new first second = record {
+pub looked_then : {D : Type 0} (g : Ghosts D) (old between new : D) → HasLooked g.blocks g.faults g.tells g.clock g.image old between
+    → HasLooked g.blocks g.faults g.tells g.clock g.image between new → HasLooked g.blocks g.faults g.tells g.clock g.image old new
+looked_then g old between new first second = record {
   unchanged = second.unchanged ∙ first.unchanged;
   later = omega (arith, first.later, second.later);
-  past = past_then tells clock image old between new first.past second.past;
-  since = λ t b since until left. elim (cases_lt (clock between) t) [
-    | inl after ↦ first.since (clock between) b first.past.later (omega arith) (second.since t b (omega (arith, after)) until left)
+  past = past_then g.tells g.clock g.image old between new first.past second.past;
+  since = λ t b since until left. elim (cases_lt (g.clock between) t) [
+    | inl after ↦ first.since (g.clock between) b first.past.later (omega arith) (second.since t b (omega (arith, after)) until left)
     | inr early ↦ first.since t b since early (second.past.no_more t b early left)
   ];
 }

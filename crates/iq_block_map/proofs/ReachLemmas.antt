@@ -11,7 +11,7 @@ use Rattle.iq_base.specs.declared.refs.Ref.{Ref}
 use Rattle.iq_block_map.specs.Maps.{page_kind}
 use Rattle.iq_block_map.specs.Objects.{leaf_count, used_in, leaves_of, listed_in, joined, address_of, address_in, addresses_of, at_place, contents, pages_of}
 use Rattle.iq_block_map.specs.Writing.{holds, SameBeside}
-use Rattle.iq_block_map.specs.Editing.{piece, AreApart, IsBadMap, HasRemapped}
+use Rattle.iq_block_map.specs.Editing.{piece, AreApart, HasRemapped}
 use Rattle.iq_block_map.proofs.PutLemmas.{holds-append}
 use Rattle.iq_block_map.proofs.StepLemmas.{listed_same, listed_at, map_same}
 use Rattle.iq_block_map.proofs.NextLemmas.{distinct_parts}
@@ -24,7 +24,7 @@ pub record IsFree (all now : List (List ℕ)) (object : Ref) (before taken left 
   pub split : before ≡ taken ++ left
   pub apart : AreApart all object before
 
-free_of : (all now : List (List ℕ)) (object : Ref) (before taken left : List ℕ) → IsFree all now object before taken left → (b : ℕ)
+pub free_of : (all now : List (List ℕ)) (object : Ref) (before taken left : List ℕ) → IsFree all now object before taken left → (b : ℕ)
     → holds before b ≡ false → (holds taken b ≡ false) × (holds left b ≡ false)
 free_of all now object before taken left free b none = holds-append taken left b (ap (λ (t : List ℕ). holds t b) (sym free.split) ∙ none)
 
@@ -224,30 +224,6 @@ old_pages all mid now object before taken left taken' after at from xs ps paged 
     let free = free_of all mid object before taken left paged.free (slice_index xs i) none in
     let later = holds-append taken' after (slice_index xs i) (ap (λ (t : List ℕ). holds t (slice_index xs i)) (sym paged.split) ∙ free.1) in
     paged.same.others (slice_index xs i) later.0 ∙ paged.free.same.others (slice_index xs i) free.0)
-
--- a result that says as much in other words
-pub ok_on : {T E : Type 0} (P Q : T → Type 0) (r : Result T E) → ((x : T) → P x → Q x) → IfOk r P → IfOk r Q
-ok_on P Q (Ok x) pass is = pass x is
-ok_on P Q (Err e) pass is = tt
-
-pub err_on : {T E : Type 0} (P Q : E → Type 0) (r : Result T E) → ((e : E) → P e → Q e) → IfErr r P → IfErr r Q
-err_on P Q (Ok x) pass is = tt
-err_on P Q (Err e) pass is = pass e is
-
--- a bad map that is met after something else was written was bad before
-pub bad_before : (all now : List (List ℕ)) (object : Ref) (before taken left : List ℕ) (b : ℕ) → IsFree all now object before taken left
-    → (leaves_of now object ≡ Err b) ⊎ IsBadMap object b now → (leaves_of all object ≡ Err b) ⊎ IsBadMap object b all
-bad_before all now object before taken left b free (inl top) = inl (sym (leaves_same all now object before taken left free) ∙ top)
-bad_before all now object before taken left b free (inr bad) =
-    let leaves : leaves_of all object ≡ Ok bad.ls = sym (leaves_same all now object before taken left free) ∙ bad.leaves in
-    let apart = free_of all now object before taken left free (slice_index bad.ls bad.k) (free.apart.leaves bad.ls leaves bad.k 0 bad.within) in
-    inr record {
-      ls = bad.ls;
-      k = bad.k;
-      leaves = leaves;
-      within = bad.within;
-      bad = sym (map_same all now 1 (used_in object.pages bad.k) (slice_index bad.ls bad.k) free.same.size (free.same.others (slice_index bad.ls bad.k) apart.0)) ∙ bad.bad;
-    }
 
 -- what became of an object as it was after a page was put became of it as it was before
 pub remapped_before : (all mid now : List (List ℕ)) (object new : Ref) (before taken left : List ℕ) (xs ys zs rest after : List ℕ)

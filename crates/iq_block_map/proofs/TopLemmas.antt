@@ -4,12 +4,13 @@ use Rattle.std.specs.List.{All}
 use Rattle.std.proofs.Common.{refl, sym, ap, subst, ◌∙◌, inl, inr, arith, append_assoc, append-nil, length-set, get_or-set_other}
 use Rattle.std.proofs.lemmas.List.{ext_get_or, get_or-take, get_or-drop, get_or_past, length-take, take_all, take-append-drop}
 use Rattle.std.proofs.lemmas.Bool.{and_parts, eq-eqb, ne_eqb, cases_lt, lt-ltb, le-ltb, le-leb, lt-leb}
+use Rattle.iq_outside.specs.declared.device.Device.{Ghosts}
 use Rattle.iq_outside.specs.Devices.{block_of}
 use Rattle.iq_base.specs.declared.refs.Ref.{Ref}
 use Rattle.iq_block_map.specs.Maps.{is_address, map_block}
-use Rattle.iq_block_map.specs.Refs.{MayBe}
+use Rattle.iq_block_map.specs.Refs.{IsIn, MayBe}
 use Rattle.iq_block_map.specs.Objects.{leaf_count, map_at, leaves_of, listed, listed_in, joined, top_of, addresses_of}
-use Rattle.iq_block_map.specs.Writing.{holds, SameBeside}
+use Rattle.iq_block_map.specs.Writing.{holds, SameBeside, HasPut}
 use Rattle.iq_block_map.specs.Editing.{piece, fresh, AreApart, HasRemapped, edited, differing, same_list, one_unless, maps_needed}
 use Rattle.iq_block_map.specs.Leaves.{padded, HasLeaves, OnlyLeaf, SameTop, NewTop, EndsTop}
 use Rattle.iq_block_map.proofs.ObjectLemmas.{joined-nil}
@@ -17,8 +18,20 @@ use Rattle.iq_block_map.proofs.PutLemmas.{holds-append}
 use Rattle.iq_block_map.proofs.LeafLemmas.{padded_of, map_written}
 use Rattle.iq_block_map.proofs.StepLemmas.{listed_same, map_same, take_piece, ok_is, length_map, same_list-self, same_list-not}
 use Rattle.iq_block_map.proofs.NextLemmas.{head_apart, below_of, behind_of}
-use Rattle.iq_block_map.proofs.RewriteLemmas.{spare_zero}
+use Rattle.iq_block_map.proofs.RewriteLemmas.{spare_zero, put_told}
 use Rattle.iq_block_map.proofs.NamedLemmas.{each_of, listed_count}
+
+-- a reference that could stand in a store can stand there after some blocks were written
+pub in_after : {D : Type 0} (g : Ghosts D) (before after : List ℕ) (old new : D) (object : Ref) → IsIn (g.blocks old) object
+    → HasPut g before after old new → IsIn (g.blocks new) object
+in_after g before after old new object is put = record {
+  few = is.few;
+  above = is.above;
+  below = λ some now told.
+      let there = put_told g before after old new now put told in
+      let inside = is.below some there.0 there.1 in
+      omega (arith, inside, there.2.size);
+}
 
 -- where lists have the same items in the same places, as far as the other goes
 pub fresh_same : (xs xs' ys : List ℕ) → ((j : ℕ) → j < length ys → slice_index xs j ≡ slice_index xs' j) → fresh xs ys ≡ fresh xs' ys

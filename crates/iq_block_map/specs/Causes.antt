@@ -35,13 +35,12 @@ abbrev pub IsBadOnWay : Ref → ℕ → ℕ → List (List ℕ) → Type 0
 IsBadOnWay object n block all =
     (address_of all object n ≡ Err block) ⊎ ((address_of all object n ≡ Ok block) × (has_header page_kind block (block_of all block) ≡ false))
 
--- an object wasn't written: too few blocks were left, the count of faults rose meanwhile, or a block that was read is bad, which
--- the device's blocks tell
-abbrev pub IsEditFault : (ℕ → List (List ℕ) → Type 0) → Type 0 → MapFault → Option (List (List ℕ)) → ℕ → ℕ → Type 0
-IsEditFault IsBad Lacks (StoreFault before after) told first last = RoseWithin first before after last
-IsEditFault IsBad Lacks (BadMap block) told first last = (all : List (List ℕ)) → told ≡ Some all → IsBad block all
-IsEditFault IsBad Lacks NoSpace told first last = Lacks
-IsEditFault IsBad Lacks NoMemory told first last = ⊥
+-- an object wasn't written: too few blocks were left, the count of faults rose meanwhile, or this block is bad
+abbrev pub IsEditFault : (ℕ → Type 0) → Type 0 → MapFault → ℕ → ℕ → Type 0
+IsEditFault IsBad Lacks (StoreFault before after) first last = RoseWithin first before after last
+IsEditFault IsBad Lacks (BadMap block) first last = IsBad block
+IsEditFault IsBad Lacks NoSpace first last = Lacks
+IsEditFault IsBad Lacks NoMemory first last = ⊥
 
 -- a block wasn't written: none was left, or the count of faults rose meanwhile
 abbrev pub IsPutFault : Type 0 → MapFault → ℕ → ℕ → Type 0

@@ -1,6 +1,7 @@
--- What calls that write blocks change. A device is seen by five members, as in the outside.
+-- What calls that write blocks change.
 use Rattle.std.specs.Prelude.{◌≡◌, ℕ, ◌≤◌, Bool, false, List, ◌++◌, length, nat_eq, Option, Some, None}
 use Rattle.std.specs.List.{list_any}
+use Rattle.iq_outside.specs.declared.device.Device.{Ghosts}
 use Rattle.iq_outside.specs.Devices.{block_of, KeepsPast}
 use Rattle.iq_block_map.specs.Takers.{taken_of}
 
@@ -19,12 +20,11 @@ AddsBeside places clock image old new = (t : ℕ) (b : List (List ℕ)) → cloc
     → (c : List (List ℕ)) × image old (clock old) c × SameBeside places c b
 
 -- of the blocks that might be taken some were, and no other was written
-pub record HasPut {D : Type 0} (blocks : D → Option (List (List ℕ))) (faults : D → ℕ) (tells : D → Bool) (clock : D → ℕ)
-    (image : D → ℕ → List (List ℕ) → Type 0) (before after : List ℕ) (old new : D) : Type 0 where
+pub record HasPut {D : Type 0} (g : Ghosts D) (before after : List ℕ) (old new : D) : Type 0 where
   pub left : before ≡ taken_of before after ++ after
-  pub content : (all : List (List ℕ)) → blocks old ≡ Some all
-      → (now : List (List ℕ)) × (blocks new ≡ Some now) × SameBeside (taken_of before after) all now
-  pub untold : blocks old ≡ None → blocks new ≡ None
-  pub later : faults old ≤ faults new
-  pub past : KeepsPast tells clock image old new
-  pub since : AddsBeside (taken_of before after) clock image old new
+  pub content : (all : List (List ℕ)) → g.blocks old ≡ Some all
+      → (now : List (List ℕ)) × (g.blocks new ≡ Some now) × SameBeside (taken_of before after) all now
+  pub untold : g.blocks old ≡ None → g.blocks new ≡ None
+  pub later : g.faults old ≤ g.faults new
+  pub past : KeepsPast g.tells g.clock g.image old new
+  pub since : AddsBeside (taken_of before after) g.clock g.image old new

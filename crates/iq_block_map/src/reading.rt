@@ -1,5 +1,5 @@
 //! Reading objects.
-ghost use Rattle.std.specs.Prelude.{◌≡◌, ◌≤◌, ◌<◌, ◌^◌, ◌*◌, ◌+◌, ◌-◌, ◌++◌, ℕ, true, false, List, Some, Ok, Err, length, take, IfOk, IfErr, OnOk};
+ghost use Rattle.std.specs.Prelude.{◌≡◌, ◌≤◌, ◌<◌, ◌^◌, ◌*◌, ◌+◌, ◌-◌, ◌++◌, ℕ, true, false, List, Some, Ok, Err, length, slice_index, take, IfOk, IfErr, OnOk};
 ghost use Rattle.iq_outside.specs.Devices.{block_of};
 ghost use Rattle.iq_block_store.specs.Frames.{has_header};
 ghost use Rattle.iq_block_store.specs.Looks.{HasLooked};
@@ -7,7 +7,7 @@ ghost use Rattle.iq_block_map.specs.Maps.{page_kind, places, is_map, is_address}
 ghost use Rattle.iq_block_map.specs.Objects.{leaf_count, used_in, map_at, leaves_of, addresses_of, blocks_of, walked, front, IsPageAt, HoldsPage};
 ghost use Rattle.iq_block_map.specs.Causes.{IsStoreFault, IsReadFault, IsWalkFault, IsBadOnWay};
 ghost use Rattle.iq_block_map.specs.declared.faults.MapFault.TheVariants.{NoMemory};
-ghost use Rattle.iq_block_map.specs.Refs.{IsIn, MayBe};
+ghost use Rattle.iq_block_map.specs.Refs.{IsIn, MayBe, HasPlaces};
 
 use crate::MapFault;
 use crate::maps::{MAP, PAGE, Places, ROOM, is_map, places_of};
@@ -85,8 +85,7 @@ pub fn leaves_of<D: Device>(disk: &mut D, count: u32, object: Ref) -> Result<Pla
     ensures looked { HasLooked D.blocks D.faults D.tells D.clock D.image disk.old disk.new }
     ensures ok { IfOk result (λ ps. (all : List (List ℕ)) → D.blocks disk.old ≡ Some all
         → leaves_of all object ≡ Ok (take (leaf_count object.pages) ps)) }
-    ensures places { IfOk result (λ ps. (all : List (List ℕ)) → D.blocks disk.old ≡ Some all
-        → MayBe (length all) (leaf_count object.pages) ps) }
+    ensures places { IfOk result (HasPlaces (D.blocks disk.old) (leaf_count object.pages)) }
     ensures cause { IfErr result (λ e. IsReadFault (λ b all. leaves_of all object ≡ Err b)
         e (D.blocks disk.old) (D.faults disk.old) (D.faults disk.new)) }
 {
@@ -105,6 +104,7 @@ pub fn leaves_of<D: Device>(disk: &mut D, count: u32, object: Ref) -> Result<Pla
 /// The leaf of an object of at most 252 pages.
 fn only_leaf(object: Ref) -> Places
     requires { object.pages ≤ 252 }
+    ensures root { 1 ≤ object.pages → slice_index result 0 ≡ object.root }
     ensures places { (count : ℕ) → (1 ≤ object.pages → is_address count object.root ≡ true) → MayBe count (leaf_count object.pages) result }
     ensures leaves { (all : List (List ℕ)) → leaves_of all object ≡ Ok (take (leaf_count object.pages) result) }
 {

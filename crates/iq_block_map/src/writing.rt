@@ -1,6 +1,7 @@
 //! Writing blocks that were taken for it.
 ghost use Rattle.std.specs.Prelude.{◌≡◌, ◌<◌, ◌^◌, ℕ, ◌∷◌, List, [], Some, IfOk, IfErr, slice_set};
 ghost use Rattle.iq_block_store.specs.Frames.{framed};
+ghost use Rattle.iq_block_map.specs.Refs.{IsPlace};
 ghost use Rattle.iq_block_map.specs.Takers.{AreSpare};
 ghost use Rattle.iq_block_map.specs.Writing.{HasPut};
 ghost use Rattle.iq_block_map.specs.Causes.{IsPutFault};
@@ -18,12 +19,15 @@ pub fn put<D: Device, T: Taker>(
     payload: &Page,
 ) -> Result<u32, MapFault>
     requires spare { AreSpare (D.blocks disk.old) (T.left space.old) }
-    ensures put { HasPut D.blocks D.faults D.tells D.clock D.image (T.left space.old) (T.left space.new) disk.old disk.new }
+    ensures put { HasPut D.Device (T.left space.old) (T.left space.new) disk.old disk.new }
+    ensures spare { AreSpare (D.blocks disk.new) (T.left space.new) }
+    ensures is_in { IfOk result (IsPlace (D.blocks disk.new)) }
     ensures fits { IfOk result (λ at. at < 2 ^ 32) }
     ensures left { IfOk result (λ at. T.left space.old ≡ at ∷ T.left space.new) }
     ensures block { IfOk result (λ at. (all : List (List ℕ)) → D.blocks disk.old ≡ Some all
         → D.blocks disk.new ≡ Some (slice_set all at (framed kind at level payload.now))) }
-    ensures cause { IfErr result (λ e. IsPutFault (T.left space.old ≡ []) e (D.faults disk.old) (D.faults disk.new)) }
+    ensures cause { IfErr result (λ e. IsPutFault ((T.left space.old ≡ []) × (T.left space.new ≡ []))
+        e (D.faults disk.old) (D.faults disk.new)) }
 {
     let Some(at) = space.take() else {
         return Err(MapFault::NoSpace);
