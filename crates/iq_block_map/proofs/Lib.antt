@@ -11,5 +11,6 @@ pub mod RewriteLemmas
 pub mod NamedLemmas
 pub mod TopLemmas
 pub mod ReachLemmas
-pub mod PageLemmas
 pub mod FrameLaws
+pub mod ReachedLemmas
+pub mod PageLemmas

@@ -1,6 +1,6 @@
 -- One page written: what a put and an edit after it did together.
-use Rattle.std.specs.Prelude.{◌≡◌, ℕ, ◌+◌, ◌-◌, ◌^◌, ◌<◌, ◌≤◌, List, [], ◌∷◌, ◌++◌, length, slice_index, slice_set, Ok, IsOk, is_ok, Option, Some}
-use Rattle.std.specs.List.{IsDistinct}
+use Rattle.std.specs.Prelude.{◌≡◌, ℕ, zero, suc, ◌+◌, ◌-◌, ◌^◌, ◌<◌, ◌≤◌, Bool, false, List, [], ◌∷◌, ◌++◌, length, nat_eq, slice_index, slice_index_or, slice_set, Ok, IsOk, is_ok, Option, Some}
+use Rattle.std.specs.List.{All, IsDistinct}
 use Rattle.std.proofs.Common.{refl, sym, ap, subst, ◌∙◌, inl, inr, arith, append-nil, get_or-set_same}
 use Rattle.iq_outside.specs.Devices.{block_of}
 use Rattle.iq_block_store.specs.Frames.{framed}
@@ -11,9 +11,12 @@ use Rattle.iq_block_map.specs.Takers.{AreSpare}
 use Rattle.iq_block_map.specs.Writing.{holds, SameBeside}
 use Rattle.iq_block_map.specs.Editing.{piece, edited, maps_needed, AreApart, StandsApart, StandsWhole, ReadsRight, IsBadMap, TellsBadMap, NeedsMap, LacksMaps, HasEdited}
 use Rattle.iq_block_map.specs.Paging.{Paging, replacing, appending, put_first, PutsPage, HasPaged, TellsBadPaged, LacksPaging}
-use Rattle.iq_block_map.proofs.PutLemmas.{first_inside, told_same}
+use Rattle.iq_block_map.proofs.PutLemmas.{first_inside, told_same, holds-append}
+use Rattle.iq_block_map.proofs.NextLemmas.{distinct_parts}
+use Rattle.iq_block_map.proofs.NamedLemmas.{all_set, all_append}
+use Rattle.iq_block_map.proofs.TopLemmas.{addresses_count}
 use Rattle.iq_block_map.proofs.StepLemmas.{map_same}
-use Rattle.iq_block_map.proofs.ReachLemmas.{IsFree, IsPaged, HoldsIn, ArePages, new_page, old_pages, pages_held, pages_hold, pages_set, pages_push, addresses_same, apart_after, leaves_same, free_of, remapped_before}
+use Rattle.iq_block_map.proofs.ReachLemmas.{address_at, IsFree, IsPaged, HoldsIn, ArePages, new_page, old_pages, pages_held, pages_hold, pages_set, pages_push, addresses_same, apart_after, leaves_same, free_of, remapped_before}
 
 -- what a page written does to lists of blocks and pages belongs together
 pub record IsPaging (w : Paging) : Type 0 where
@@ -21,6 +24,7 @@ pub record IsPaging (w : Paging) : Type 0 where
   pub some : (at : ℕ) → 1 ≤ length (w.changed at) + length (w.added at)
   pub hold : (all : List (List ℕ)) (xs : List ℕ) (ps : List (List ℕ)) (at : ℕ) (page : List ℕ) → ArePages all xs ps → HoldsIn all at page
       → ArePages all (w.blocks xs at) (w.pages ps page)
+  pub each : (p : ℕ → Bool) (xs : List ℕ) (at : ℕ) → All (λ b. p b ≡ false) xs → p at ≡ false → All (λ b. p b ≡ false) (w.blocks xs at)
 
 pub replacing_is : (n : ℕ) → IsPaging (replacing n)
 replacing_is n =
@@ -29,6 +33,7 @@ replacing_is n =
       shape = λ xs at. append-nil (slice_set xs (n - 0) at) ∙ ap (λ (i : ℕ). slice_set xs i at) place;
       some = λ at. omega arith;
       hold = λ all xs ps at page are here. pages_set all xs ps n at page are here;
+      each = λ p xs at free here. all_set (λ b. p b ≡ false) xs n at free here;
     }
 
 pub appending_is : IsPaging appending
@@ -36,6 +41,8 @@ appending_is = record {
   shape = λ xs at. refl;
   some = λ at. omega arith;
   hold = λ all xs ps at page are here. pages_push all xs ps at page are here;
+  each = λ p xs at free here. all_append (λ b. p b ≡ false) xs (at ∷ []) free
+      (λ k d within. (let first : k ≡ 0 = omega (arith, within) in rw first here));
 }
 
 -- a page was put and the object edited to have it
@@ -116,6 +123,28 @@ needs_before all mid object before taken left changed added free need =
       ];
     }
 
+get_or_any : (xs : List ℕ) (k d e : ℕ) → k < length xs → slice_index_or xs k d ≡ slice_index_or xs k e
+get_or_any [] k d e within = absurd (omega (arith, within))
+get_or_any (x ∷ xs) zero d e within = refl
+get_or_any (x ∷ xs) (suc k) d e within = get_or_any xs k d e (omega (arith, within))
+
+-- pages that aren't among what was left aren't among what is
+pages_free : (all : List (List ℕ)) (object : Ref) (before left taken taken' after xs : List ℕ) → object.pages ≤ 63504 → AreApart all object before
+    → addresses_of all object ≡ Ok xs → before ≡ taken ++ left → left ≡ taken' ++ after → All (λ b. holds after b ≡ false) xs
+pages_free all object before left taken taken' after xs few apart named first second k d within =
+    let inside : k < object.pages = omega (arith, within, addresses_count all object xs few named) in
+    let at = address_at all object xs k few named inside in
+    let none : holds before (slice_index xs k) ≡ false = apart.pages k (slice_index xs k) inside at in
+    let later = (holds-append taken left (slice_index xs k) (ap (λ (t : List ℕ). holds t (slice_index xs k)) (sym first) ∙ none)).1 in
+    let last = (holds-append taken' after (slice_index xs k) (ap (λ (t : List ℕ). holds t (slice_index xs k)) (sym second) ∙ later)).1 in
+    subst (λ (b : ℕ). holds after b ≡ false) (get_or_any xs k 0 d within) last
+
+-- the block that was taken first isn't taken again
+put_free : (before left taken' after : List ℕ) (at : ℕ) → IsDistinct nat_eq before → before ≡ at ∷ left → left ≡ taken' ++ after → holds after at ≡ false
+put_free before left taken' after at distinct first second =
+    let parts = distinct_parts at left (subst (IsDistinct nat_eq) first distinct) in
+    (holds-append taken' after at (ap (λ (t : List ℕ). holds t at) (sym second) ∙ parts.0)).1
+
 -- the page is in the new object
 pub paged : (w : Paging) → IsPaging w → (told told_mid told_now : Option (List (List ℕ))) (object new : Ref) (page before left taken taken' after : List ℕ) (at : ℕ)
     → IsPutThere told told_mid object page before left taken at → left ≡ taken' ++ after
@@ -158,6 +187,10 @@ paged w is_w told told_mid told_now object new page before left taken taken' aft
         at = at;
         left = left;
         first = put.first;
+        apart = (made.remapped (put.content all stands.is).0 now xs (whole_mid told told_mid object page before left taken at put all xs stands) told_is).apart
+            (subst (All (λ b. holds after b ≡ false)) (sym (is_w.shape xs at))
+            (is_w.each (holds after) xs at (pages_free all object before left taken taken' after xs put.few stands.apart stands.pages put.split split)
+            (put_free before left taken' after at put.spare.distinct put.first split)));
         remapped = remapped_before all (put.content all stands.is).0 now object new before taken left xs (w.blocks xs at) (edited xs (w.changed at) (w.added at)) left after
             (free_there told told_mid object page before left taken at put all stands.is stands.apart)
             (made.remapped (put.content all stands.is).0 now xs (whole_mid told told_mid object page before left taken at put all xs stands) told_is)

@@ -9,7 +9,7 @@ use Rattle.iq_block_store.specs.Frames.{has_header, payload_of, framed}
 use Rattle.iq_block_store.proofs.FrameLemmas.{has_header-framed, payload_of-framed}
 use Rattle.iq_base.specs.declared.refs.Ref.{Ref}
 use Rattle.iq_block_map.specs.Maps.{page_kind}
-use Rattle.iq_block_map.specs.Objects.{leaf_count, used_in, leaves_of, listed_in, joined, address_of, address_in, addresses_of, at_place, contents, pages_of}
+use Rattle.iq_block_map.specs.Objects.{leaf_count, used_in, leaves_of, listed_in, joined, address_of, address_in, addresses_of, blocks_of, top_of, at_place, contents, pages_of}
 use Rattle.iq_block_map.specs.Writing.{holds, SameBeside}
 use Rattle.iq_block_map.specs.Editing.{piece, AreApart, HasRemapped}
 use Rattle.iq_block_map.proofs.PutLemmas.{holds-append}
@@ -225,6 +225,22 @@ old_pages all mid now object before taken left taken' after at from xs ps paged 
     let later = holds-append taken' after (slice_index xs i) (ap (λ (t : List ℕ). holds t (slice_index xs i)) (sym paged.split) ∙ free.1) in
     paged.same.others (slice_index xs i) later.0 ∙ paged.free.same.others (slice_index xs i) free.0)
 
+-- and all that it reaches
+blocks_same : (all now : List (List ℕ)) (object : Ref) (before taken left : List ℕ) → IsFree all now object before taken left
+    → blocks_of now object ≡ blocks_of all object
+blocks_same all now object before taken left free =
+    ap (λ (r : Result (List ℕ) ℕ). joined (Ok (top_of true object)) (listed_in true now object.pages r)) (leaves_same all now object before taken left free)
+    ∙ go (leaves_of all object) refl
+  where
+    go : (r : Result (List ℕ) ℕ) → leaves_of all object ≡ r
+        → joined (Ok (top_of true object)) (listed_in true now object.pages r) ≡ joined (Ok (top_of true object)) (listed_in true all object.pages r)
+    go (Err b) is = refl
+    go (Ok ls) is =
+        ap (joined (Ok (top_of true object)))
+        (listed_same true all now object.pages ls free.same.size
+        (λ j inside.
+        free.same.others (slice_index ls j) (free_of all now object before taken left free (slice_index ls j) (free.apart.leaves ls is j 0 inside)).0))
+
 -- what became of an object as it was after a page was put became of it as it was before
 pub remapped_before : (all mid now : List (List ℕ)) (object new : Ref) (before taken left : List ℕ) (xs ys zs rest after : List ℕ)
     → IsFree all mid object before taken left → HasRemapped mid now object new xs zs rest after → zs ≡ ys → HasRemapped all now object new xs ys rest after
@@ -234,4 +250,10 @@ remapped_before all mid now object new before taken left xs ys zs rest after fre
       addresses = remapped.addresses;
       count = remapped.count;
       maps = λ ls ms is_old is_new. remapped.maps ls ms (leaves_same all mid object before taken left free ∙ is_old) is_new;
+      apart = remapped.apart;
+      reach = record {
+        blocks = remapped.reach.blocks;
+        is = remapped.reach.is;
+        among = λ reached is. remapped.reach.among reached (blocks_same all mid object before taken left free ∙ is);
+      };
     }

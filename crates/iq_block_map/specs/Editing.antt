@@ -3,7 +3,8 @@ use Rattle.std.specs.Prelude.{◌≡◌, ◌≢◌, ◌⊎◌, ℕ, ◌+◌, ◌
 use Rattle.std.specs.List.{All, fold, list_any}
 use Rattle.iq_base.specs.declared.refs.Ref.{Ref}
 use Rattle.iq_block_map.specs.Maps.{is_address}
-use Rattle.iq_block_map.specs.Objects.{used_in, map_at, leaves_of, addresses_of, address_of, top_of, leaf_count}
+use Rattle.iq_block_map.specs.Objects.{used_in, map_at, leaves_of, addresses_of, address_of, blocks_of, top_of, leaf_count}
+use Rattle.iq_block_map.specs.Takers.{taken_of}
 use Rattle.iq_block_map.specs.Writing.{holds}
 
 -- pages with some replaced, each of which is a number, from a first one on, and a block
@@ -137,12 +138,20 @@ pub record LacksMaps (told : Option (List (List ℕ))) (object : Ref) (changed :
   pub fewer : (all : List (List ℕ)) (xs : List ℕ) → StandsWhole told object before all xs
       → length before < maps_needed xs (edited xs changed added)
 
+-- an object reaches blocks, each of which the old one reached, is one of its pages, or was taken
+pub record ReachesAmong (all now : List (List ℕ)) (old new : Ref) (pages taken : List ℕ) : Type 0 where
+  pub blocks : List ℕ
+  pub is : blocks_of now new ≡ Ok blocks
+  pub among : (reached : List ℕ) → blocks_of all old ≡ Ok reached → All (λ b. holds (reached ++ (pages ++ taken)) b ≡ true) blocks
+
 -- an object with some pages became one with others
 pub record HasRemapped (all now : List (List ℕ)) (old new : Ref) (xs ys before after : List ℕ) : Type 0 where
   pub size : new.pages ≡ length ys
   pub addresses : addresses_of now new ≡ Ok ys
   pub count : length before ≡ maps_needed xs ys + length after
   pub maps : (ls ms : List ℕ) → leaves_of all old ≡ Ok ls → leaves_of now new ≡ Ok ms → SharesMaps old new xs ys before after ls ms
+  pub reach : ReachesAmong all now old new ys (taken_of before after)
+  pub apart : All (λ b. holds after b ≡ false) ys → AreApart now new after
 
 -- it holds of the blocks of a device, where that tells them
 abbrev pub IsNowIn : (List (List ℕ) → Type 0) → Option (List (List ℕ)) → Type 0

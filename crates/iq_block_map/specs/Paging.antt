@@ -4,7 +4,7 @@ use Rattle.iq_block_store.specs.Frames.{framed}
 use Rattle.iq_base.specs.declared.refs.Ref.{Ref}
 use Rattle.iq_block_map.specs.Maps.{page_kind}
 use Rattle.iq_block_map.specs.Objects.{pages_of}
-use Rattle.iq_block_map.specs.Editing.{edited, maps_needed, StandsApart, StandsWhole, ReadsRight, IsBadMap, NeedsMap, HasRemapped}
+use Rattle.iq_block_map.specs.Editing.{edited, maps_needed, AreApart, StandsApart, StandsWhole, ReadsRight, IsBadMap, NeedsMap, HasRemapped}
 
 -- what a page written does: as an edit, by the block that the page is put in; to the list of blocks; and to the pages
 pub record Paging : Type 0 where
@@ -41,6 +41,7 @@ pub record PutsPage (with : ℕ → List ℕ) (all now : List (List ℕ)) (old n
   pub left : List ℕ
   pub first : before ≡ at ∷ left
   pub remapped : HasRemapped all now old new xs (with at) left after
+  pub apart : AreApart now new after
 
 -- a page was written: the maps that were read are right, the pages became those with it, and the maps are shared
 pub record HasPaged (told told_now : Option (List (List ℕ))) (object : Ref) (w : Paging) (page before after : List ℕ) (new : Ref) : Type 0 where

@@ -13,6 +13,7 @@ use Rattle.iq_block_map.proofs.PutLemmas.{put_none, put_then, looked_then, spare
 use Rattle.iq_block_map.proofs.ReadLemmas.{edit_fault_on, read_fault_edits, put_fault_edits}
 use Rattle.iq_block_map.proofs.RewriteLemmas.{spare_after, place_after, leaf_right, leaf_from}
 use Rattle.iq_block_map.proofs.TopLemmas.{IsRebuilt, remap_done, lacks_top, listed_from, addresses_count, in_after}
+use Rattle.iq_block_map.proofs.ReachedLemmas.{remapped}
 use Rattle.iq_block_map.proofs.editing.rebuild.Goals as goal
 
 pub rewrite_leaves-requires-clause-before : goal.rewrite_leaves-requires-clause-before
@@ -136,8 +137,10 @@ returns-clause-ok g c =
             some = some;
             few = omega (arith, pages, c.requires.most);
           } in
-          remap_done all mid.0 now c.args.old _ c.in_ok-before.before c.in_ok-leaves.leaves xs ys _ _ _ _ rebuilt (sym pages)
-          (rw pages (c.in_ok-root.ensures.ok mid.0 mid.1 now told_now));
+          remapped all now c.args.old _ xs ys _ _
+          (remap_done all mid.0 now c.args.old _ c.in_ok-before.before c.in_ok-leaves.leaves xs ys _ _ _ _ rebuilt (sym pages)
+          (rw pages (c.in_ok-root.ensures.ok mid.0 mid.1 now told_now)))
+          (omega (arith, c.requires.most)) (λ some_pages. (c.in_ok-root.ensures.is_in (omega (arith, some_pages))).above) c.requires.spare.distinct stands.apart stands.pages;
     }
 
 pub returns-in_err-root-clause-cause : goal.returns-in_err-root-clause-cause
