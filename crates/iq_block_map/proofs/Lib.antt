@@ -13,4 +13,5 @@ pub mod TopLemmas
 pub mod ReachLemmas
 pub mod FrameLaws
 pub mod ReachedLemmas
+pub mod TradeLaws
 pub mod PageLemmas

@@ -121,11 +121,11 @@ is_page all a = has_header page_kind a (block_of all a)
 content_of : List (List ℕ) → ℕ → List ℕ
 content_of all a = payload_of (block_of all a)
 
-cut_some : (b : Bool) (xs ys : List (List ℕ)) → (if b then Some xs else None) ≡ Some ys → (b ≡ true) × (xs ≡ ys)
+pub cut_some : (b : Bool) (xs ys : List (List ℕ)) → (if b then Some xs else None) ≡ Some ys → (b ≡ true) × (xs ≡ ys)
 cut_some true xs ys is = (refl, cc)
 cut_some false xs ys is = cc
 
-pages_from : (all : List (List ℕ)) (xs : List ℕ) (ps : List (List ℕ))
+pub pages_from : (all : List (List ℕ)) (xs : List ℕ) (ps : List (List ℕ))
     → list_all (λ a. has_header page_kind a (block_of all a)) xs ≡ true → map (λ a. payload_of (block_of all a)) xs ≡ ps → ArePages all xs ps
 pages_from all [] [] right is = tt
 pages_from all [] (p ∷ ps) right is = cc
@@ -150,7 +150,7 @@ pages_held all object ps is = go (addresses_of all object) refl
         let parts = cut_some (list_all (λ a. has_header page_kind a (block_of all a)) xs) (map (λ a. payload_of (block_of all a)) xs) ps (sym (ap (contents all) good) ∙ is) in
         (xs, good, pages_from all xs ps parts.0 parts.1)
 
-all_right : (all : List (List ℕ)) (xs : List ℕ) (ps : List (List ℕ)) → ArePages all xs ps
+pub all_right : (all : List (List ℕ)) (xs : List ℕ) (ps : List (List ℕ)) → ArePages all xs ps
     → (list_all (λ a. has_header page_kind a (block_of all a)) xs ≡ true) × (map (λ a. payload_of (block_of all a)) xs ≡ ps)
 all_right all [] [] are = (refl, refl)
 all_right all [] (p ∷ ps) are = absurd are

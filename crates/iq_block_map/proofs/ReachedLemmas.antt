@@ -17,7 +17,7 @@ use Rattle.iq_block_map.proofs.NamedLemmas.{map_names}
 use Rattle.iq_block_map.proofs.TopLemmas.{Remaps, leaves_one, leaves_many, leaves_none, top_one, top_none}
 use Rattle.iq_block_map.proofs.FrameLaws.{all_front, all_back, all_cons, all_both, object_parts, apart_law}
 
-all_none : (P : ℕ → Type 0) → All P []
+pub all_none : (P : ℕ → Type 0) → All P []
 all_none P k d within = absurd (omega (arith, within))
 
 -- what leaves name, and the leaves themselves

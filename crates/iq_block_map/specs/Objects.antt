@@ -63,6 +63,10 @@ addresses_of = walked false
 abbrev pub blocks_of : List (List ℕ) → Ref → Result (List ℕ) ℕ
 blocks_of = walked true
 
+-- the maps of an object, the topmost one before its leaves, or the topmost one where that isn't right
+abbrev pub maps_of : List (List ℕ) → Ref → Result (List ℕ) ℕ
+maps_of all object = joined (Ok (top_of true object)) (leaves_of all object)
+
 abbrev pub at_place : ℕ → Result (List ℕ) ℕ → Result ℕ ℕ
 at_place i (Err b) = Err b
 at_place i (Ok xs) = Ok (slice_index xs i)
