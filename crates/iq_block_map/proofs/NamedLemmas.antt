@@ -57,7 +57,7 @@ map_names all level used at xs is = go (is_map (length all) level used at (block
         → (if b then Ok (take used (places (block_of all at))) else Err at) ≡ Ok xs → All (λ x. is_address (length all) x ≡ true) xs
     go true right same =
         let is : take used (places (block_of all at)) ≡ xs = cc in
-        let named = (and_parts _ _ (and_parts _ _ right).1).0 in
+        let named = (and_parts _ _ (and_parts _ _ (and_parts _ _ right).1).1).0 in
         subst (All (λ x. is_address (length all) x ≡ true)) is (each_of (is_address (length all)) (take used (places (block_of all at))) named)
     go false right same = cc
 

@@ -3,18 +3,21 @@ use Rattle.std.specs.Prelude.{◌≡◌, ℕ, zero, suc, ◌+◌, ◌-◌, ◌^�
 use Rattle.std.specs.List.{All, IsDistinct}
 use Rattle.std.proofs.Common.{refl, sym, ap, subst, ◌∙◌, inl, inr, arith, append-nil, get_or-set_same}
 use Rattle.iq_outside.specs.Devices.{block_of}
-use Rattle.iq_block_store.specs.Frames.{framed}
+use Rattle.iq_outside.specs.declared.device.Device.{Ghosts}
+use Rattle.iq_block_store.specs.Frames.{framed, has_header, payload_of}
+use Rattle.iq_block_store.proofs.FrameLemmas.{has_header-framed, payload_of-framed}
 use Rattle.iq_base.specs.declared.refs.Ref.{Ref}
 use Rattle.iq_block_map.specs.Maps.{page_kind}
-use Rattle.iq_block_map.specs.Objects.{used_in, map_at, leaves_of, addresses_of}
+use Rattle.iq_block_map.specs.Objects.{leaf_count, used_in, map_at, leaves_of, addresses_of, HoldsPage}
 use Rattle.iq_block_map.specs.Takers.{AreSpare}
-use Rattle.iq_block_map.specs.Writing.{holds, SameBeside}
+use Rattle.iq_block_map.specs.Writing.{holds, SameBeside, HasPut}
 use Rattle.iq_block_map.specs.Editing.{piece, edited, maps_needed, AreApart, StandsApart, StandsWhole, ReadsRight, IsBadMap, TellsBadMap, NeedsMap, LacksMaps, HasEdited}
 use Rattle.iq_block_map.specs.Paging.{Paging, replacing, appending, put_first, PutsPage, HasPaged, TellsBadPaged, LacksPaging}
 use Rattle.iq_block_map.proofs.PutLemmas.{first_inside, told_same, holds-append}
 use Rattle.iq_block_map.proofs.NextLemmas.{distinct_parts}
 use Rattle.iq_block_map.proofs.NamedLemmas.{all_set, all_append}
 use Rattle.iq_block_map.proofs.TopLemmas.{addresses_count}
+use Rattle.iq_block_map.proofs.RewriteLemmas.{put_told}
 use Rattle.iq_block_map.proofs.StepLemmas.{map_same}
 use Rattle.iq_block_map.proofs.ReachLemmas.{address_at, IsFree, IsPaged, HoldsIn, ArePages, new_page, old_pages, pages_held, pages_hold, pages_set, pages_push, addresses_same, apart_after, leaves_same, free_of, remapped_before}
 
@@ -215,6 +218,7 @@ lacks_paged w is_w told told_mid object page before left taken after at put lack
     let at_is = first_at told told_mid object page before left taken at put in
     record {
       none = lacks.none;
+      room = subst (λ (a : ℕ). length before ≤ leaf_count (object.pages + length (w.added a)) + 1) (sym at_is) (omega (arith, ap length put.first, lacks.room));
       needs = inr (λ all stands.
           let mid = put.content all stands.is in
           subst (λ (a : ℕ). NeedsMap object (w.changed a) (w.added a) all) (sym at_is)
@@ -231,6 +235,23 @@ pub lacks_first : (w : Paging) (told : Option (List (List ℕ))) (object : Ref) 
     → LacksPaging told object w before after
 lacks_first w told object before after none_before none_after = record {
   none = none_after;
+  room = omega (arith, ap length none_before);
   needs = inl none_before;
   fewer = λ all xs stands. omega (arith, ap length none_before);
 }
+
+-- a page that was put is in its block
+pub page_there : {D : Type 0} (g : Ghosts D) (before after : List ℕ) (old new : D) (at : ℕ) (page : List ℕ) (now : List (List ℕ))
+    → AreSpare (g.blocks old) before → HasPut g before after old new → before ≡ at ∷ after → at < 2 ^ 32
+    → ((all : List (List ℕ)) → g.blocks old ≡ Some all → g.blocks new ≡ Some (slice_set all at (framed page_kind at 0 page)))
+    → g.blocks new ≡ Some now → HoldsPage page at now
+page_there g before after old new at page now spare put left fits block is =
+    let there = put_told g before after old new now put is in
+    let inside : at < length there.0 = first_inside (g.blocks old) there.0 at before after spare there.1 left in
+    let now_is = told_same _ _ now _ refl is (block there.0 there.1) in
+    let here : block_of now at ≡ framed page_kind at 0 page
+    = ap (λ (b : List (List ℕ)). block_of b at) now_is ∙ get_or-set_same there.0 at (framed page_kind at 0 page) [] inside in
+    record {
+      header = ap (has_header page_kind at) here ∙ has_header-framed page_kind at 0 page (omega arith) fits (omega arith) (inr refl);
+      content = sym (ap payload_of here ∙ payload_of-framed page_kind at 0 page);
+    }

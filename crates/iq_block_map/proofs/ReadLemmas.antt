@@ -1,14 +1,15 @@
 -- What was read of maps and pages.
-use Rattle.std.specs.Prelude.{◌≡◌, ℕ, zero, suc, ◌<◌, ◌≤◌, Bool, true, List, [], ◌∷◌, length, take, drop, slice_index, Option, Some, Result, Ok, Err, IfOk, IfErr, IsOk, is_ok}
+use Rattle.std.specs.Prelude.{◌≡◌, ℕ, zero, suc, ◌<◌, ◌≤◌, Bool, true, false, ◌&&◌, if◌then◌else◌, List, [], ◌∷◌, length, take, drop, slice_index, Option, Some, Result, Ok, Err, IfOk, IfErr, IsOk, is_ok}
 use Rattle.std.specs.List.{list_all}
 use Rattle.std.proofs.Common.{refl, sym, ap, ◌∙◌, arith}
 use Rattle.std.proofs.lemmas.List.{get_or-take, length-take}
 use Rattle.std.proofs.lemmas.Bool.{ltb-true, leb-true, and_parts}
 use Rattle.iq_outside.specs.Devices.{block_of}
-use Rattle.iq_block_store.specs.Frames.{has_header, payload_of}
-use Rattle.iq_block_map.specs.Maps.{page_kind, is_address}
+use Rattle.iq_block_store.specs.Frames.{map_kind, has_header, payload_of}
+use Rattle.iq_block_map.specs.declared.map_bytes.RawMap.{RawMap}
+use Rattle.iq_block_map.specs.Maps.{page_kind, is_address, places, raw_map, is_right_map, IsRawMap}
 use Rattle.iq_block_map.specs.Refs.{MayBe}
-use Rattle.iq_block_map.specs.Objects.{HoldsPage}
+use Rattle.iq_block_map.specs.Objects.{HoldsPage, map_at}
 use Rattle.iq_block_map.specs.Causes.{IsReadFault, IsWalkFault, IsEditFault, IsPutFault}
 use Rattle.iq_block_map.specs.declared.faults.MapFault.{MapFault}
 use Rattle.iq_block_map.specs.declared.faults.MapFault.TheVariants.{StoreFault, BadMap, NoSpace, NoMemory}
@@ -109,3 +110,30 @@ err_on P Q (Err e) pass is = pass e is
 
 pub is_ok_of : {T E : Type 0} (r : Result T E) (x : T) → r ≡ Ok x → IsOk r
 is_ok_of r x is = ap is_ok is
+
+pub ok_three : {T E : Type 0} (P Q R S : T → Type 0) (r : Result T E) → ((x : T) → P x → Q x → R x → S x) → IfOk r P → IfOk r Q → IfOk r R → IfOk r S
+ok_three P Q R S (Ok x) pass one two three = pass x one two three
+ok_three P Q R S (Err e) pass one two three = tt
+
+if_true : (b c : Bool) (xs : List ℕ) (at : ℕ) → b ≡ true → c ≡ true → ◌≡◌ {A = Result (List ℕ) ℕ} (if (b && c) then Ok xs else Err at) (Ok xs)
+if_true b c xs at one two = rw (one, two) refl
+
+-- a map that was read is right
+pub map_read : (all : List (List ℕ)) (count level used at : ℕ) (raw : RawMap) → IsRawMap raw at all → count ≡ length all
+    → is_right_map count level used raw ≡ true → map_at all level used at ≡ Ok (take used raw.numbers)
+map_read all count level used at raw read size right =
+    let here : is_right_map (length all) level used (raw_map (block_of all at)) ≡ true
+    = ap (λ (n : ℕ). is_right_map n level used (raw_map (block_of all at))) (sym size) ∙ ap (is_right_map count level used) (sym read.is) ∙ right in
+    if_true (has_header map_kind at (block_of all at)) (is_right_map (length all) level used (raw_map (block_of all at))) (take used (places (block_of all at))) at read.header here
+    ∙ ap (λ (r : RawMap). Ok (take used r.numbers)) (sym read.is)
+
+-- or isn't
+pub map_not_read : (all : List (List ℕ)) (count level used at : ℕ) (raw : RawMap) → IsRawMap raw at all → count ≡ length all
+    → is_right_map count level used raw ≡ false → map_at all level used at ≡ Err at
+map_not_read all count level used at raw read size wrong =
+    let here : is_right_map (length all) level used (raw_map (block_of all at)) ≡ false
+    = ap (λ (n : ℕ). is_right_map n level used (raw_map (block_of all at))) (sym size) ∙ ap (is_right_map count level used) (sym read.is) ∙ wrong in
+    rw (read.header, here) refl
+
+pub map_no_header : (all : List (List ℕ)) (level used at : ℕ) → has_header map_kind at (block_of all at) ≡ false → map_at all level used at ≡ Err at
+map_no_header all level used at wrong = rw wrong refl

@@ -2,7 +2,9 @@
 use Rattle.std.specs.Prelude.{◌≡◌, ◌⊎◌, ℕ, false, List, Ok, Err, Option, Some}
 use Rattle.iq_outside.specs.Faults.{RoseWithin}
 use Rattle.iq_outside.specs.Devices.{block_of}
-use Rattle.iq_block_store.specs.Frames.{has_header}
+use Rattle.iq_block_store.specs.Frames.{map_kind, has_header}
+use Rattle.iq_block_store.specs.declared.blocks.BlockFault.{BlockFault}
+use Rattle.iq_block_store.specs.declared.blocks.BlockFault.TheVariants.{StoreFault as Rose, BadHeader}
 use Rattle.iq_base.specs.declared.refs.Ref.{Ref}
 use Rattle.iq_block_map.specs.declared.faults.MapFault.{MapFault}
 use Rattle.iq_block_map.specs.declared.faults.MapFault.TheVariants.{StoreFault, BadMap, NoSpace, NoMemory}
@@ -15,6 +17,12 @@ IsStoreFault (StoreFault before after) first last = RoseWithin first before afte
 IsStoreFault (BadMap block) first last = ⊥
 IsStoreFault NoSpace first last = ⊥
 IsStoreFault NoMemory first last = ⊥
+
+-- the bytes of a map weren't read: the count of faults rose meanwhile, or the block isn't of that kind and place
+abbrev pub IsRawFault : BlockFault → ℕ → Option (List (List ℕ)) → ℕ → ℕ → Type 0
+IsRawFault (Rose before after) at told first last = RoseWithin first before after last
+IsRawFault (BadHeader block) at told first last =
+    (block ≡ at) × ((all : List (List ℕ)) → told ≡ Some all → has_header map_kind at (block_of all at) ≡ false)
 
 -- or where this block is bad, which the device's blocks tell
 abbrev pub IsReadFault : (ℕ → List (List ℕ) → Type 0) → MapFault → Option (List (List ℕ)) → ℕ → ℕ → Type 0

@@ -131,9 +131,10 @@ pub record NeedsMap (object : Ref) (changed : List (ℕ × ℕ)) (added : List �
       → IsOk (map_at all 1 (used_in object.pages j) (slice_index ls j))
   pub needs : ChangesLeaf object changed added all ls k ⊎ ((leaf_count object.pages ≤ k) × (252 < object.pages + length added))
 
--- too few blocks are left: none now, one is needed, and where all maps are right fewer were left than maps are needed
+-- too few blocks are left: none now, fewer were than any such edit may take, one is needed, and where all maps are right fewer were left than maps are needed
 pub record LacksMaps (told : Option (List (List ℕ))) (object : Ref) (changed : List (ℕ × ℕ)) (added before after : List ℕ) : Type 0 where
   pub none : after ≡ []
+  pub room : length before ≤ leaf_count (object.pages + length added)
   pub needs : (all : List (List ℕ)) → StandsApart told object before all → NeedsMap object changed added all
   pub fewer : (all : List (List ℕ)) (xs : List ℕ) → StandsWhole told object before all xs
       → length before < maps_needed xs (edited xs changed added)

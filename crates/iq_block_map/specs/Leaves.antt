@@ -54,6 +54,7 @@ pub record NeedsLeaf (object : Ref) (ps : List ℕ) (changed : List (ℕ × ℕ)
 -- none is left for a leaf that must be written
 pub record LacksLeaves (told : Option (List (List ℕ))) (object : Ref) (ps : List ℕ) (changed : List (ℕ × ℕ)) (added before after : List ℕ) : Type 0 where
   pub none : after ≡ []
+  pub room : length before < leaf_count (object.pages + length added)
   pub needs : (all : List (List ℕ)) → told ≡ Some all → AreOpened all object ps before → NeedsLeaf object ps changed added all
   pub fewer : (all : List (List ℕ)) (xs : List ℕ) → told ≡ Some all → IsOpened all object ps xs before
       → LacksLeaf before xs (edited xs changed added)

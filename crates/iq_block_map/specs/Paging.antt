@@ -1,9 +1,9 @@
 -- One page of an object written: it takes the place of another, or stands behind all.
-use Rattle.std.specs.Prelude.{◌≡◌, ◌⊎◌, ℕ, ◌+◌, ◌<◌, List, [], ◌∷◌, ◌++◌, length, slice_index, slice_set, Option, Some}
+use Rattle.std.specs.Prelude.{◌≡◌, ◌⊎◌, ℕ, ◌+◌, ◌<◌, ◌≤◌, List, [], ◌∷◌, ◌++◌, length, slice_index, slice_set, Option, Some}
 use Rattle.iq_block_store.specs.Frames.{framed}
 use Rattle.iq_base.specs.declared.refs.Ref.{Ref}
 use Rattle.iq_block_map.specs.Maps.{page_kind}
-use Rattle.iq_block_map.specs.Objects.{pages_of}
+use Rattle.iq_block_map.specs.Objects.{leaf_count, pages_of}
 use Rattle.iq_block_map.specs.Editing.{edited, maps_needed, AreApart, StandsApart, StandsWhole, ReadsRight, IsBadMap, NeedsMap, HasRemapped}
 
 -- what a page written does: as an edit, by the block that the page is put in; to the list of blocks; and to the pages
@@ -61,6 +61,7 @@ TellsBadPaged told told_now object w page before block =
 -- too few blocks are left for a page and the maps over it: none now, and there was none at all or a map needs one
 pub record LacksPaging (told : Option (List (List ℕ))) (object : Ref) (w : Paging) (before after : List ℕ) : Type 0 where
   pub none : after ≡ []
+  pub room : length before ≤ leaf_count (object.pages + length (w.added (slice_index before 0))) + 1
   pub needs : (before ≡ []) ⊎ ((all : List (List ℕ)) → StandsApart told object before all
       → NeedsMap object (w.changed (slice_index before 0)) (w.added (slice_index before 0)) all)
   pub fewer : (all : List (List ℕ)) (xs : List ℕ) → StandsWhole told object before all xs

@@ -10,7 +10,7 @@ ghost use Rattle.iq_block_map.specs.Causes.{IsEditFault, IsReadFault, IsPutFault
 ghost use Rattle.iq_block_store.specs.Looks.{HasLooked};
 ghost use Rattle.std.specs.List.{prefix_len};
 
-use crate::maps::{MAP, Places, ROOM, payload_of};
+use crate::map_bytes::{MAP, Places, ROOM, payload_of};
 use crate::reading::{count_of, leaf_count, leaves_of, read_map, used_in};
 use crate::writing::put;
 use crate::{MapFault, Taker};
@@ -43,6 +43,8 @@ pub fn remap<D: Device, T: Taker>(
     requires spare { AreSpare (D.blocks disk.old) (T.left space.old) }
     ensures put { HasPut D.Device (T.left space.old) (T.left space.new) disk.old disk.new }
     ensures spare { AreSpare (D.blocks disk.new) (T.left space.new) }
+    ensures most { length (T.left space.old)
+        ≤ length (T.left space.new) + (leaf_count (old.pages + length added.now) + 1) }
     ensures ok { IfOk result (HasEdited (D.blocks disk.old) (D.blocks disk.new) old changed.now added.now
         (T.left space.old) (T.left space.new)) }
     ensures is_in { IfOk result (IsIn (D.blocks disk.new)) }
@@ -75,6 +77,8 @@ fn rebuild<D: Device, T: Taker>(
     requires spare { AreSpare (D.blocks disk.old) (T.left space.old) }
     ensures put { HasPut D.Device (T.left space.old) (T.left space.new) disk.old disk.new }
     ensures spare { AreSpare (D.blocks disk.new) (T.left space.new) }
+    ensures most { length (T.left space.old)
+        ≤ length (T.left space.new) + (leaf_count (old.pages + length added.now) + 1) }
     ensures ok { IfOk result (HasEdited (D.blocks disk.old) (D.blocks disk.new) old changed.now added.now
         (T.left space.old) (T.left space.new)) }
     ensures is_in { IfOk result (IsIn (D.blocks disk.new)) }
@@ -106,6 +110,7 @@ fn top<D: Device, T: Taker>(
     requires spare { AreSpare (D.blocks disk.old) (T.left space.old) }
     ensures put { HasPut D.Device (T.left space.old) (T.left space.new) disk.old disk.new }
     ensures spare { AreSpare (D.blocks disk.new) (T.left space.new) }
+    ensures most { length (T.left space.old) ≤ length (T.left space.new) + 1 }
     ensures is_in { IfOk result (λ root. 1 ≤ pages → IsPlace (D.blocks disk.new) root) }
     ensures ok { IfOk result (λ root. (all : List (List ℕ)) → D.blocks disk.old ≡ Some all
         → IsNowIn (λ now. EndsTop all now old before.now leaves.now pages root (T.left space.old) (T.left space.new)) (D.blocks disk.new)) }
@@ -149,6 +154,8 @@ fn rewrite_leaves<D: Device, T: Taker>(
     requires spare { AreSpare (D.blocks disk.old) (T.left space.old) }
     ensures put { HasPut D.Device (T.left space.old) (T.left space.new) disk.old disk.new }
     ensures spare { AreSpare (D.blocks disk.new) (T.left space.new) }
+    ensures most { length (T.left space.old)
+        ≤ length (T.left space.new) + leaf_count (old.pages + length added.now) }
     ensures ok { IfOk result (λ leaves. (all : List (List ℕ)) (xs : List ℕ) → D.blocks disk.old ≡ Some all
         → IsOpened all old before.now xs (T.left space.old)
         → IsNowIn (λ now. HasLeaves all now before.now leaves xs (edited xs changed.now added.now) (T.left space.old) (T.left space.new)) (D.blocks disk.new)) }
@@ -204,6 +211,7 @@ fn rewrite_leaf<D: Device, T: Taker>(
     requires spare { AreSpare (D.blocks disk.old) (T.left space.old) }
     ensures put { HasPut D.Device (T.left space.old) (T.left space.new) disk.old disk.new }
     ensures spare { AreSpare (D.blocks disk.new) (T.left space.new) }
+    ensures most { length (T.left space.old) ≤ length (T.left space.new) + 1 }
     ensures ok { IfOk result (λ made. (all : List (List ℕ)) (xs : List ℕ) → D.blocks disk.old ≡ Some all
         → leaf_at all leaf.used leaf.at ≡ Ok xs
         → IsNowIn (λ now. EndsLeaf all now leaf.at made xs (replaced_from leaf.first xs here.now ++ more.now) (T.left space.old) (T.left space.new)) (D.blocks disk.new)) }

@@ -8,7 +8,7 @@
 mod editing;
 mod faults;
 mod laws;
-mod maps;
+mod map_bytes;
 mod pages;
 mod reading;
 mod taker;
@@ -24,6 +24,8 @@ pub use laws::{
     pages_change_with_their_blocks, pages_stand_on_their_blocks,
     what_is_fresh_replaces_what_is_lost, what_is_not_reached_is_apart,
 };
+pub use map_bytes::RawMap;
 pub use pages::{push, with_page};
-pub use reading::{addresses, blocks, page};
+pub use reading::{addresses, blocks, maps, most_maps, page, read_page, read_raw_map};
 pub use taker::Taker;
+pub use writing::put_page;

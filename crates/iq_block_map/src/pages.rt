@@ -1,5 +1,6 @@
 //! Writing one page of an object.
-ghost use Rattle.std.specs.Prelude.{◌≡◌, ◌<◌, ◌+◌, IfOk, IfErr};
+ghost use Rattle.std.specs.Prelude.{◌≡◌, ◌≤◌, ◌<◌, ◌+◌, length, IfOk, IfErr};
+ghost use Rattle.iq_block_map.specs.Objects.{leaf_count};
 ghost use Rattle.iq_block_map.specs.Refs.{IsIn};
 ghost use Rattle.iq_block_map.specs.Takers.{AreSpare};
 ghost use Rattle.iq_block_map.specs.Writing.{HasPut};
@@ -7,7 +8,7 @@ ghost use Rattle.iq_block_map.specs.Paging.{replacing, appending, HasPaged, Tell
 ghost use Rattle.iq_block_map.specs.Causes.{IsEditFault};
 
 use crate::editing::remap;
-use crate::maps::PAGE;
+use crate::map_bytes::PAGE;
 use crate::writing::put;
 use crate::{MapFault, Taker};
 use iq_base::Ref;
@@ -29,6 +30,7 @@ pub fn with_page<D: Device, T: Taker>(
     requires spare { AreSpare (D.blocks disk.old) (T.left space.old) }
     ensures put { HasPut D.Device (T.left space.old) (T.left space.new) disk.old disk.new }
     ensures spare { AreSpare (D.blocks disk.new) (T.left space.new) }
+    ensures most { length (T.left space.old) ≤ length (T.left space.new) + (leaf_count object.pages + 2) }
     ensures ok { IfOk result (HasPaged (D.blocks disk.old) (D.blocks disk.new) object (replacing n) from.now
         (T.left space.old) (T.left space.new)) }
     ensures is_in { IfOk result (IsIn (D.blocks disk.new)) }
@@ -56,6 +58,7 @@ pub fn push<D: Device, T: Taker>(
     requires spare { AreSpare (D.blocks disk.old) (T.left space.old) }
     ensures put { HasPut D.Device (T.left space.old) (T.left space.new) disk.old disk.new }
     ensures spare { AreSpare (D.blocks disk.new) (T.left space.new) }
+    ensures most { length (T.left space.old) ≤ length (T.left space.new) + (leaf_count (object.pages + 1) + 2) }
     ensures ok { IfOk result (HasPaged (D.blocks disk.old) (D.blocks disk.new) object appending from.now
         (T.left space.old) (T.left space.new)) }
     ensures is_in { IfOk result (IsIn (D.blocks disk.new)) }

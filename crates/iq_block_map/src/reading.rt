@@ -3,14 +3,15 @@ ghost use Rattle.std.specs.Prelude.{◌≡◌, ◌≤◌, ◌<◌, ◌^◌, ◌*
 ghost use Rattle.iq_outside.specs.Devices.{block_of};
 ghost use Rattle.iq_block_store.specs.Frames.{has_header};
 ghost use Rattle.iq_block_store.specs.Looks.{HasLooked};
-ghost use Rattle.iq_block_map.specs.Maps.{page_kind, places, is_map, is_address};
-ghost use Rattle.iq_block_map.specs.Objects.{leaf_count, used_in, map_at, leaves_of, addresses_of, blocks_of, walked, front, IsPageAt, HoldsPage};
-ghost use Rattle.iq_block_map.specs.Causes.{IsStoreFault, IsReadFault, IsWalkFault, IsBadOnWay};
+ghost use Rattle.iq_block_map.specs.Maps.{page_kind, IsRawMap, is_address};
+ghost use Rattle.iq_block_map.specs.Objects.{leaf_count, used_in, map_at, leaves_of, maps_of, addresses_of, blocks_of, walked, front, IsPageAt, HoldsPage};
+ghost use Rattle.iq_block_map.specs.Causes.{IsStoreFault, IsRawFault, IsReadFault, IsWalkFault, IsBadOnWay};
 ghost use Rattle.iq_block_map.specs.declared.faults.MapFault.TheVariants.{NoMemory};
+ghost use Rattle.iq_block_map.specs.Editing.{maps_needed};
 ghost use Rattle.iq_block_map.specs.Refs.{IsIn, MayBe, HasPlaces};
 
 use crate::MapFault;
-use crate::maps::{MAP, PAGE, Places, ROOM, is_map, places_of};
+use crate::map_bytes::{MAP, PAGE, Places, ROOM, RawMap, is_right_map, raw_map_of};
 use iq_base::Ref;
 use iq_block_store::{BlockFault, Page, read};
 use iq_outside::Device;
@@ -22,6 +23,15 @@ pub fn leaf_count(pages: u32) -> u32
     ensures { result ≡ leaf_count pages }
 {
     (pages + 251) / 252
+}
+
+/// The most maps that an object of so many pages has, and so the most blocks that a `remap` takes for one.
+pub fn most_maps(pages: u32) -> u32
+    requires { pages ≤ 63504 }
+    ensures most { result ≡ leaf_count pages + 1 }
+    ensures enough { (xs ys : List ℕ) → length ys ≡ pages → maps_needed xs ys ≤ result }
+{
+    leaf_count(pages) + 1
 }
 
 /// How many pages a leaf names, of so many.
@@ -67,15 +77,27 @@ pub fn read_map<D: Device>(
     ensures cause { IfErr result (λ e. IsReadFault (λ b all. (b ≡ at) × (map_at all level used at ≡ Err at))
         e (D.blocks disk.old) (D.faults disk.old) (D.faults disk.new)) }
 {
-    let mut block = [0; 1024];
-    match read(disk, at, MAP, &mut block) {
-        Ok(()) if is_map(count, level, used, at, &block) => Ok(places_of(&block)),
-        Ok(()) | Err(BlockFault::BadHeader { .. }) => Err(MapFault::BadMap { block: at }),
+    match read_raw_map(disk, at) {
+        Ok(raw) if is_right_map(count, level, used, &raw) => Ok(raw.numbers),
+        Ok(_) | Err(BlockFault::BadHeader { .. }) => Err(MapFault::BadMap { block: at }),
         Err(BlockFault::StoreFault { before, after }) => Err(MapFault::StoreFault {
             before,
             after,
         }),
     }
+}
+
+/// Reads the level and the numbers of a map, and tests none of them: for one who tells apart what may be wrong with a map. It reads
+/// one block, and takes no memory. `BadHeader` comes where the block isn't a map of its place.
+pub fn read_raw_map<D: Device>(disk: &mut D, at: u32) -> Result<RawMap, BlockFault>
+    requires { (all : List (List ℕ)) → D.blocks disk.old ≡ Some all → at < length all }
+    ensures looked { HasLooked D.blocks D.faults D.tells D.clock D.image disk.old disk.new }
+    ensures ok { IfOk result (λ raw. (all : List (List ℕ)) → D.blocks disk.old ≡ Some all → IsRawMap raw at all) }
+    ensures cause { IfErr result (λ e. IsRawFault e at (D.blocks disk.old) (D.faults disk.old) (D.faults disk.new)) }
+{
+    let mut block = [0; 1024];
+    read(disk, at, MAP, &mut block)?;
+    Ok(raw_map_of(&block))
 }
 
 /// The leaves of an object. The numbers behind them are zero.
@@ -133,8 +155,9 @@ pub fn page<D: Device>(disk: &mut D, object: Ref, n: u32, into: &mut Page) -> Re
     Ok(at)
 }
 
-/// Reads the page in a block.
-fn read_page<D: Device>(disk: &mut D, at: u32, into: &mut Page) -> Result<(), MapFault>
+/// Reads the page in a block. It reads that block alone, and takes no memory. `BadMap` names the block where it isn't a page of its
+/// place.
+pub fn read_page<D: Device>(disk: &mut D, at: u32, into: &mut Page) -> Result<(), MapFault>
     requires { (all : List (List ℕ)) → D.blocks disk.old ≡ Some all → at < length all }
     ensures looked { HasLooked D.blocks D.faults D.tells D.clock D.image disk.old disk.new }
     ensures ok { OnOk result ((all : List (List ℕ)) → D.blocks disk.old ≡ Some all → HoldsPage into.new at all) }
@@ -178,6 +201,22 @@ pub fn blocks<D: Device>(alloc: Global, disk: &mut D, object: Ref) -> Result<Vec
     walk(alloc, disk, object, true)
 }
 
+/// The maps of an object, the topmost one before its leaves. It reads one block where there are more than 252 pages, else none.
+pub fn maps<D: Device>(alloc: Global, disk: &mut D, object: Ref) -> Result<Vec<u32>, MapFault>
+    requires object { IsIn (D.blocks disk.old) object }
+    ensures looked { HasLooked D.blocks D.faults D.tells D.clock D.image disk.old disk.new }
+    ensures ok { IfOk result (λ bs. (all : List (List ℕ)) → D.blocks disk.old ≡ Some all → maps_of all object ≡ Ok bs.items) }
+    ensures cause { IfErr result (λ e. IsWalkFault (λ b all. maps_of all object ≡ Err b)
+        e (D.blocks disk.old) (D.faults disk.old) (D.faults disk.new)) }
+{
+    let count = count_of(disk)?;
+    let leaves = leaves_of(disk, count, object)?;
+    let mut maps = Vec::with_capacity(alloc, most_maps(object.pages) as usize)?;
+    let named = leaves.split_at(leaf_count(object.pages) as usize).0;
+    put_leaf(&mut maps, object.pages > 252, object.root, named)?;
+    Ok(maps)
+}
+
 /// The blocks of an object's pages, and where they are wanted its maps, each before what it names.
 fn walk<D: Device>(
     alloc: Global,
@@ -193,7 +232,8 @@ fn walk<D: Device>(
 {
     let count = count_of(disk)?;
     let leaves = leaves_of(disk, count, object)?;
-    let mut blocks = Vec::new(alloc);
+    let most = object.pages + most_maps(object.pages);
+    let mut blocks = Vec::with_capacity(alloc, most as usize)?;
     if maps && object.pages > 252 {
         blocks.push(object.root)?;
     }

@@ -6,7 +6,7 @@ ghost use Rattle.iq_block_map.specs.Refs.{IsIn};
 ghost use Rattle.iq_block_map.specs.Takers.{AreSpare};
 
 use super::*;
-use crate::maps::{MAP, PAGE, payload_of};
+use crate::map_bytes::{MAP, PAGE, payload_of};
 use iq_base::Ref;
 use iq_block_store::{Page, write};
 use iq_outside::{Block, Device, FuseDevice, MemoryDevice, SureDevice};

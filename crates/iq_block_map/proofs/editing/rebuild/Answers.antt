@@ -48,6 +48,7 @@ returns-in_err-leaves-clause-cause g c =
     })
     (λ lacks. record {
       none = lacks.none;
+      room = omega (arith, lacks.room);
       needs = λ all stands.
           let need = lacks.needs all (c.in_ok-before.ensures.looked.unchanged ∙ (c.in_ok-count.ensures.looked.unchanged ∙ stands.is)) record { may = (c.in_ok-before.ensures.places.may all (c.in_ok-count.ensures.looked.unchanged ∙ stands.is)); apart = stands.apart.leaves ls (c.in_ok-before.ensures.ok all (c.in_ok-count.ensures.looked.unchanged ∙ stands.is)) } in
           record {
@@ -153,6 +154,7 @@ returns-in_err-root-clause-cause g c =
     (omega (arith, c.in_ok-count.ensures.looked.later, c.in_ok-before.ensures.looked.later, c.rewrite_leaves.ensures.put.later)) (omega arith)
     (λ lacks. record {
       none = lacks.1;
+      room = omega (arith, ap length lacks.0, c.rewrite_leaves.ensures.most);
       needs = λ all stands.
           let told_count = c.in_ok-count.ensures.looked.unchanged ∙ stands.is in
           let leaves = c.in_ok-before.ensures.ok all told_count in

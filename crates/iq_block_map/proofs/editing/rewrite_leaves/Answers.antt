@@ -22,6 +22,7 @@ loop-k-init g c = record {
   added = c.requires.added;
   long = search rules;
   untouched = refl;
+  most = omega arith;
   first = λ none. absurd (omega (arith, none));
   touch = λ j later. refl;
   reads = λ all told opened j within early. absurd (omega (arith, early));
@@ -79,6 +80,7 @@ returns-in_err-leaves-clause-cause g c =
     (λ b bad now told. bad_place now c.args.old c.args.before.now c.args.changed.now here c.args.added.now more k _ c.used_in.result b c.used_in.ensures same touch (bad now told))
     (λ lacks. record {
       none = lacks.none;
+      room = omega (arith, ap length lacks.had, c.loop-k.invariant.most, c.loop-k-test.true, c.leaf_count-k-end.ensures);
       needs = λ all told opened.
           let mid = c.loop-k.invariant.put.content all told in
           let leaf = leaf_same all mid.0 c.args.old c.args.before.now _ _ _ k _ c.used_in.result opened mid.2 c.loop-k.invariant.put.left (omega (arith, c.requires.most)) c.used_in.ensures same in
@@ -123,6 +125,7 @@ loop-k-preserved g c =
       added = λ all told. rw c.split_at-in-loop-k.ensures.back (all_drop (λ a. is_address (length all) a ≡ true) c.min.result c.loop-k.to_add.now (c.loop-k.invariant.added all told));
       long = length-set c.loop-k.leaves c.loop-k.k c.in_ok-leaves.field-0 ∙ c.loop-k.invariant.long;
       untouched = untouched_more c.args.before.now c.loop-k.leaves c.loop-k.k c.in_ok-leaves.field-0 c.loop-k.invariant.untouched;
+      most = omega (arith, c.loop-k.invariant.most, c.rewrite_leaf.ensures.most);
       first = λ some. first_more (g.D.Device.blocks c.args.disk.now) c.loop-k.leaves c.loop-k.k c.in_ok-leaves.field-0 (omega (arith, c.loop-k.invariant.long)) c.loop-k.invariant.first
           (λ none. place_before _ _ _ _ _ _
           (c.in_ok-leaves.ensures.is_in (omega (

@@ -1,4 +1,4 @@
-use Rattle.std.proofs.Common.{◌≡◌, ◌≤◌, ◌*◌, ◌++◌, ℕ, List, Some, length, drop, slice_index}
+use Rattle.std.proofs.Common.{◌≡◌, ◌≤◌, ◌+◌, ◌*◌, ◌++◌, ℕ, List, Some, length, drop, slice_index}
 use Rattle.iq_block_map.specs.Refs.{IsPlace}
 use Rattle.iq_block_map.specs.Writing.{HasPut}
 use Rattle.iq_block_map.specs.Editing.{AreChanges, AreBlocks, IsNowIn, edited, replaced_from, touches}
@@ -13,6 +13,7 @@ invariant-loop-k g l = record {
   added : AreBlocks (g.D.Device.blocks l.fn.disk) l.to_add;
   long : length l.leaves ≡ 252;
   untouched : drop l.k l.leaves ≡ drop l.k l.before;
+  most : length (g.T.Taker.left l.fn.space) ≤ length (g.T.Taker.left l.space) + l.k;
   first : 1 ≤ l.k → IsPlace (g.D.Device.blocks l.fn.disk) (slice_index l.leaves 0);
   touch : (j : ℕ) → l.k ≤ j → touches j l.to_change ≡ touches j l.changed;
   reads : (all : List (List ℕ)) → g.D.Device.blocks l.fn.disk ≡ Some all → AreOpened all l.old l.before (g.T.Taker.left l.fn.space)
