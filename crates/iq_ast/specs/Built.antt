@@ -8,10 +8,10 @@ use Rattle.iq_base.specs.declared.values.Value.TheVariants.{Null, Int, Text}
 use Rattle.iq_base.specs.declared.values.Kind.TheVariants as kind
 use Rattle.iq_base.specs.declared.schemas.Column.{Column}
 use Rattle.iq_ast.specs.declared.statements.Item.{Item}
-use Rattle.iq_ast.specs.declared.statements.Item.TheVariants.{Plain, CountAll}
+use Rattle.iq_ast.specs.declared.statements.Item.TheVariants.{Plain, CountAll, Count, Sum, Min, Max}
 use Rattle.iq_ast.specs.declared.statements.Select.{Select}
 use Rattle.iq_ast.specs.declared.statements.Write.{Write}
-use Rattle.iq_ast.specs.declared.statements.Write.TheVariants.{CreateTable, Insert}
+use Rattle.iq_ast.specs.declared.statements.Write.TheVariants.{CreateTable, DropTable, CreateIndex, DropIndex, Insert, Load, Delete, Update}
 use Rattle.iq_ast.specs.declared.statements.Statement.{Statement}
 use Rattle.iq_ast.specs.declared.statements.Statement.TheVariants as statement
 use Rattle.iq_ast.specs.Words.{IsName}
@@ -57,7 +57,11 @@ pub record AreTuples (rows : List (List Value)) : Type 0 where
 -- a column by its name
 abbrev pub IsPlain : Item → Type 0
 IsPlain (Plain name) = IsName name
-IsPlain _ = ⊥
+IsPlain CountAll = ⊥
+IsPlain (Count name) = ⊥
+IsPlain (Sum name) = ⊥
+IsPlain (Min name) = ⊥
+IsPlain (Max name) = ⊥
 
 -- columns by their names, one at least, or the count of all rows alone
 abbrev pub AreItems : List Item → Type 0
@@ -77,11 +81,22 @@ pub record IsPlainSelect (select : Select) : Type 0 where
 -- a CREATE TABLE or an INSERT
 abbrev pub IsBuiltWrite : Write → Type 0
 IsBuiltWrite (CreateTable name schema) = IsName name × AreColumns schema.columns
+IsBuiltWrite (DropTable name) = ⊥
+IsBuiltWrite (CreateIndex name kind table column second) = ⊥
+IsBuiltWrite (DropIndex table name) = ⊥
 IsBuiltWrite (Insert table rows) = IsName table × AreTuples rows
-IsBuiltWrite _ = ⊥
+IsBuiltWrite (Load table rows text) = ⊥
+IsBuiltWrite (Delete table cond) = ⊥
+IsBuiltWrite (Update table changes cond) = ⊥
 
 -- a statement of one of these forms
 abbrev pub IsBuilt : Statement → Type 0
 IsBuilt (statement.Write write) = IsBuiltWrite write
 IsBuilt (statement.Select select) = IsPlainSelect select
-IsBuilt _ = ⊥
+IsBuilt statement.Begin = ⊥
+IsBuilt statement.Commit = ⊥
+IsBuilt statement.Rollback = ⊥
+IsBuilt (statement.Savepoint name) = ⊥
+IsBuilt (statement.BackTo name) = ⊥
+IsBuilt (statement.Release name) = ⊥
+IsBuilt statement.Sync = ⊥

@@ -1,4 +1,2 @@
 pub mod CellBytes
 pub mod CellLaws
-pub mod PageLaws
-pub mod PagesInMemory

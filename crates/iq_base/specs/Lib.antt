@@ -1,7 +1,4 @@
 pub mod Cells
 pub mod Locks
-pub mod MemoryPages
-pub mod MemoryView
-pub mod PageCalls
-pub mod Pages
 pub mod Limits
+pub mod Shorts

@@ -3,7 +3,7 @@ ghost use Rattle.std.specs.Prelude.{◌≡◌};
 ghost use Rattle.std.specs.Option.{option_copied};
 ghost use Rattle.iq_base.specs.Locks.{catalog_name, locks_of};
 
-use crate::names::Name;
+use crate::texts::Name;
 use std::marker::Model;
 
 /// At most two names: `catalog`, where tables are created or dropped, and a table's. Contracts see the list of names,

@@ -2,7 +2,7 @@
 ghost use Rattle.std.specs.Prelude.{◌≡◌};
 
 use crate::memory::NoMemory;
-use crate::names::Name;
+use crate::texts::Name;
 use std::alloc::{AllocError, AllocFailed};
 
 /// Where the blocks of a store are: on the free list, reserved for secondaries, private to running transactions, reached by

@@ -2,7 +2,7 @@
 ghost use Rattle.std.specs.Prelude.{◌≡◌};
 
 use crate::lists::Listed;
-use crate::names::Name;
+use crate::texts::Name;
 use crate::values::Kind;
 
 /// A column of a table: its name, what it holds, and whether NULL may stand in it.

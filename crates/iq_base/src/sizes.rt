@@ -5,3 +5,6 @@ pub const PAGE_BYTES: usize = 1008;
 
 /// How many pages an object may have: 252 maps of 252 pages each.
 pub const MOST_PAGES: u32 = 63_504;
+
+/// The bytes of a page: what a block of 1,024 bytes holds behind its header.
+pub type Page = [u8; 1008];

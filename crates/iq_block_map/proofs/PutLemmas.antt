@@ -67,23 +67,25 @@ put_none g left old new looked =
       since = λ t b since until now. (b, looked.since t b since until now, rw none (SameBeside-refl [] b));
     }
 
-past_then : {D : Type 0} (tells : D → Bool) (clock : D → ℕ) (image : D → ℕ → List (List ℕ) → Type 0) (old between new : D)
-    → KeepsPast tells clock image old between → KeepsPast tells clock image between new → KeepsPast tells clock image old new
-past_then tells clock image old between new first second = record {
+past_then : {D : Type 0} (g : Ghosts D) (old between new : D)
+    → KeepsPast g old between → KeepsPast g between new → KeepsPast g old new
+past_then g old between new first second = record {
   same = second.same ∙ first.same;
   later = omega (arith, first.later, second.later);
   keeps = λ t b early left. second.keeps t b (omega (arith, early, first.later)) (first.keeps t b early left);
   no_more = λ t b early left. first.no_more t b early (second.no_more t b (omega (arith, early, first.later)) left);
+  keeps_whole = λ t i x early here. second.keeps_whole t i x (omega (arith, early, first.later)) (first.keeps_whole t i x early here);
+  whole_before = λ t i x early here. first.whole_before t i x early (second.whole_before t i x (omega (arith, early, first.later)) here);
 }
 
-since_then : {D : Type 0} (clock : D → ℕ) (image : D → ℕ → List (List ℕ) → Type 0) (tells : D → Bool) (xs ys : List ℕ) (old between new : D)
-    → KeepsPast tells clock image old between → KeepsPast tells clock image between new
-    → AddsBeside xs clock image old between → AddsBeside ys clock image between new → AddsBeside (xs ++ ys) clock image old new
-since_then clock image tells xs ys old between new past_first past_second first second t b since until left =
-    elim (cases_lt (clock between) t) [
+since_then : {D : Type 0} (g : Ghosts D) (xs ys : List ℕ) (old between new : D)
+    → KeepsPast g old between → KeepsPast g between new
+    → AddsBeside g xs old between → AddsBeside g ys between new → AddsBeside g (xs ++ ys) old new
+since_then g xs ys old between new past_first past_second first second t b since until left =
+    elim (cases_lt (g.clock between) t) [
       | inl after ↦
           (let mid = second t b (omega (arith, after)) until left in
-          let start = first (clock between) mid.0 past_first.later (omega arith) mid.1 in
+          let start = first (g.clock between) mid.0 past_first.later (omega arith) mid.1 in
           (start.0, start.1, beside_more xs ys start.0 mid.0 b start.2 mid.2))
       | inr early ↦
           (let start = first t b since early (past_second.no_more t b early left) in
@@ -141,7 +143,7 @@ pub looked_same : {D : Type 0} (g : Ghosts D) (now : D) → HasLooked g.blocks g
 looked_same g now = record {
   unchanged = refl;
   later = omega arith;
-  past = record { same = refl; later = omega arith; keeps = λ t b early left. left; no_more = λ t b early left. left };
+  past = record { same = refl; later = omega arith; keeps = λ t b early left. left; no_more = λ t b early left. left; keeps_whole = λ t i x early here. here; whole_before = λ t i x early here. here };
   since = λ t b since until left. rw (← same t since until) left;
 }
   where

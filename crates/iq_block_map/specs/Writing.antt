@@ -15,9 +15,9 @@ pub record SameBeside (places : List ℕ) (old new : List (List ℕ)) : Type 0 w
   pub others : (i : ℕ) → holds places i ≡ false → block_of new i ≡ block_of old i
 
 -- what a stop meanwhile may leave differs in these places from what a stop before could have left
-abbrev pub AddsBeside : {D : Type 0} → List ℕ → (D → ℕ) → (D → ℕ → List (List ℕ) → Type 0) → D → D → Type 0
-AddsBeside places clock image old new = (t : ℕ) (b : List (List ℕ)) → clock old ≤ t → t ≤ clock new → image new t b
-    → (c : List (List ℕ)) × image old (clock old) c × SameBeside places c b
+abbrev pub AddsBeside : {D : Type 0} → Ghosts D → List ℕ → D → D → Type 0
+AddsBeside g places old new = (t : ℕ) (b : List (List ℕ)) → g.clock old ≤ t → t ≤ g.clock new → g.image new t b
+    → (c : List (List ℕ)) × g.image old (g.clock old) c × SameBeside places c b
 
 -- of the blocks that might be taken some were, and no other was written
 pub record HasPut {D : Type 0} (g : Ghosts D) (before after : List ℕ) (old new : D) : Type 0 where

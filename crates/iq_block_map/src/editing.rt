@@ -257,7 +257,7 @@ fn read_leaf<D: Device>(disk: &mut D, count: u32, leaf: Leaf) -> Result<Places, 
     requires count { (all : List (List ℕ)) → D.blocks disk.old ≡ Some all → count ≡ length all }
     requires leaf { (all : List (List ℕ)) → D.blocks disk.old ≡ Some all → 1 ≤ leaf.used → leaf.at < length all }
     requires used { leaf.used ≤ 252 }
-    ensures looked { HasLooked D.blocks D.faults D.tells D.clock D.image disk.old disk.new }
+    ensures looked { HasLooked D.Device disk.old disk.new }
     ensures ok { IfOk result (λ ps. (all : List (List ℕ)) → D.blocks disk.old ≡ Some all
         → leaf_at all leaf.used leaf.at ≡ Ok (take leaf.used ps)) }
     ensures padded { IfOk result (λ ps. ps ≡ padded (take leaf.used ps)) }

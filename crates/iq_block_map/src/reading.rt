@@ -45,7 +45,7 @@ pub fn used_in(pages: u32, k: u32) -> usize
 
 /// How many blocks the device has.
 pub fn count_of<D: Device>(disk: &mut D) -> Result<u32, MapFault>
-    ensures looked { HasLooked D.blocks D.faults D.tells D.clock D.image disk.old disk.new }
+    ensures looked { HasLooked D.Device disk.old disk.new }
     ensures count { IfOk result (λ n. (all : List (List ℕ)) → D.blocks disk.old ≡ Some all → n ≡ length all) }
     ensures fits { IfOk result (λ n. n < 2 ^ 32) }
     ensures cause { IfErr result (λ e. IsStoreFault e (D.faults disk.old) (D.faults disk.new)) }
@@ -70,7 +70,7 @@ pub fn read_map<D: Device>(
 ) -> Result<Places, MapFault>
     requires used { used ≤ 252 }
     requires told { (all : List (List ℕ)) → D.blocks disk.old ≡ Some all → (count ≡ length all) × (at < length all) }
-    ensures looked { HasLooked D.blocks D.faults D.tells D.clock D.image disk.old disk.new }
+    ensures looked { HasLooked D.Device disk.old disk.new }
     ensures ok { IfOk result (λ ps. (all : List (List ℕ)) → D.blocks disk.old ≡ Some all
         → map_at all level used at ≡ Ok (take used ps)) }
     ensures places { IfOk result (λ ps. MayBe count used ps) }
@@ -104,7 +104,7 @@ pub fn read_raw_map<D: Device>(disk: &mut D, at: u32) -> Result<RawMap, BlockFau
 pub fn leaves_of<D: Device>(disk: &mut D, count: u32, object: Ref) -> Result<Places, MapFault>
     requires object { IsIn (D.blocks disk.old) object }
     requires count { (all : List (List ℕ)) → D.blocks disk.old ≡ Some all → count ≡ length all }
-    ensures looked { HasLooked D.blocks D.faults D.tells D.clock D.image disk.old disk.new }
+    ensures looked { HasLooked D.Device disk.old disk.new }
     ensures ok { IfOk result (λ ps. (all : List (List ℕ)) → D.blocks disk.old ≡ Some all
         → leaves_of all object ≡ Ok (take (leaf_count object.pages) ps)) }
     ensures places { IfOk result (HasPlaces (D.blocks disk.old) (leaf_count object.pages)) }
@@ -141,7 +141,7 @@ fn only_leaf(object: Ref) -> Places
 pub fn page<D: Device>(disk: &mut D, object: Ref, n: u32, into: &mut Page) -> Result<u32, MapFault>
     requires object { IsIn (D.blocks disk.old) object }
     requires page { n < object.pages }
-    ensures looked { HasLooked D.blocks D.faults D.tells D.clock D.image disk.old disk.new }
+    ensures looked { HasLooked D.Device disk.old disk.new }
     ensures ok { IfOk result (λ at. (all : List (List ℕ)) → D.blocks disk.old ≡ Some all → IsPageAt object n at into.new all) }
     ensures cause { IfErr result (λ e. IsReadFault (IsBadOnWay object n)
         e (D.blocks disk.old) (D.faults disk.old) (D.faults disk.new)) }
@@ -159,7 +159,7 @@ pub fn page<D: Device>(disk: &mut D, object: Ref, n: u32, into: &mut Page) -> Re
 /// place.
 pub fn read_page<D: Device>(disk: &mut D, at: u32, into: &mut Page) -> Result<(), MapFault>
     requires { (all : List (List ℕ)) → D.blocks disk.old ≡ Some all → at < length all }
-    ensures looked { HasLooked D.blocks D.faults D.tells D.clock D.image disk.old disk.new }
+    ensures looked { HasLooked D.Device disk.old disk.new }
     ensures ok { OnOk result ((all : List (List ℕ)) → D.blocks disk.old ≡ Some all → HoldsPage into.new at all) }
     ensures cause { IfErr result (λ e. IsReadFault (λ b all. (b ≡ at) × (has_header page_kind b (block_of all b) ≡ false))
         e (D.blocks disk.old) (D.faults disk.old) (D.faults disk.new)) }
@@ -182,7 +182,7 @@ pub fn read_page<D: Device>(disk: &mut D, at: u32, into: &mut Page) -> Result<()
 /// else one for each 252 pages begun and one more.
 pub fn addresses<D: Device>(alloc: Global, disk: &mut D, object: Ref) -> Result<Vec<u32>, MapFault>
     requires object { IsIn (D.blocks disk.old) object }
-    ensures looked { HasLooked D.blocks D.faults D.tells D.clock D.image disk.old disk.new }
+    ensures looked { HasLooked D.Device disk.old disk.new }
     ensures ok { IfOk result (λ xs. (all : List (List ℕ)) → D.blocks disk.old ≡ Some all → addresses_of all object ≡ Ok xs.items) }
     ensures cause { IfErr result (λ e. IsWalkFault (λ b all. addresses_of all object ≡ Err b)
         e (D.blocks disk.old) (D.faults disk.old) (D.faults disk.new)) }
@@ -193,7 +193,7 @@ pub fn addresses<D: Device>(alloc: Global, disk: &mut D, object: Ref) -> Result<
 /// The blocks that an object reaches, each map before what it names. It reads each map of the object once and no page.
 pub fn blocks<D: Device>(alloc: Global, disk: &mut D, object: Ref) -> Result<Vec<u32>, MapFault>
     requires object { IsIn (D.blocks disk.old) object }
-    ensures looked { HasLooked D.blocks D.faults D.tells D.clock D.image disk.old disk.new }
+    ensures looked { HasLooked D.Device disk.old disk.new }
     ensures ok { IfOk result (λ xs. (all : List (List ℕ)) → D.blocks disk.old ≡ Some all → blocks_of all object ≡ Ok xs.items) }
     ensures cause { IfErr result (λ e. IsWalkFault (λ b all. blocks_of all object ≡ Err b)
         e (D.blocks disk.old) (D.faults disk.old) (D.faults disk.new)) }
@@ -225,7 +225,7 @@ fn walk<D: Device>(
     maps: bool,
 ) -> Result<Vec<u32>, MapFault>
     requires object { IsIn (D.blocks disk.old) object }
-    ensures looked { HasLooked D.blocks D.faults D.tells D.clock D.image disk.old disk.new }
+    ensures looked { HasLooked D.Device disk.old disk.new }
     ensures ok { IfOk result (λ xs. (all : List (List ℕ)) → D.blocks disk.old ≡ Some all → walked maps all object ≡ Ok xs.items) }
     ensures cause { IfErr result (λ e. IsWalkFault (λ b all. walked maps all object ≡ Err b)
         e (D.blocks disk.old) (D.faults disk.old) (D.faults disk.new)) }

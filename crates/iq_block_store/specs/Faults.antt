@@ -3,8 +3,13 @@ use Rattle.std.specs.Prelude.{◌≡◌, ℕ, false, List, Option, Some}
 use Rattle.iq_outside.specs.Faults.{RoseWithin}
 use Rattle.iq_outside.specs.Devices.{block_of}
 use Rattle.iq_block_store.specs.Frames.{has_header}
+use Rattle.iq_block_store.specs.declared.store_faults.StoreFault.{StoreFault as Rise}
 use Rattle.iq_block_store.specs.declared.blocks.BlockFault.{BlockFault}
 use Rattle.iq_block_store.specs.declared.blocks.BlockFault.TheVariants.{StoreFault, BadHeader}
+
+-- the count of faults rose from the one number to the other meanwhile
+abbrev pub IsRise : Rise → ℕ → ℕ → Type 0
+IsRise fault first last = RoseWithin first fault.before fault.after last
 
 -- a read fails where the count of faults rose meanwhile, or where the block that came isn't of this kind and place
 abbrev pub ReadFails : BlockFault → ℕ → ℕ → List ℕ → ℕ → ℕ → Type 0

@@ -19,9 +19,21 @@ bytes_of n = little_bytes 4 n
 unfoldable pub mark : ℕ
 mark = 0x31425149
 
--- the kind of a map, whose header has a level
+-- The five kinds of blocks: a root's body, its gate, a block of a table's descriptor, a map, whose header has a level, and a page.
+abbrev pub body_kind : ℕ
+body_kind = 1
+
+abbrev pub gate_kind : ℕ
+gate_kind = 2
+
+abbrev pub descriptor_kind : ℕ
+descriptor_kind = 3
+
 abbrev pub map_kind : ℕ
 map_kind = 4
+
+abbrev pub page_kind : ℕ
+page_kind = 5
 
 -- a block's header is right: the mark, the kind with three zeros behind it, the block's own number, and no level unless it is
 -- a map

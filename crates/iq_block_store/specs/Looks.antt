@@ -1,12 +1,11 @@
--- What calls of a device that only look at it leave. A device is seen by five members: its blocks where it tells them, its count
--- of faults, whether it tells what a stop may leave, the present moment, and what a stop at a moment may have left.
-use Rattle.std.specs.Prelude.{◌≡◌, ℕ, ◌≤◌, Bool, List, Option}
-use Rattle.iq_outside.specs.Devices.{KeepsPast, AddsNone}
+-- What calls of a device that only look at it leave.
+use Rattle.std.specs.Prelude.{◌≡◌, ◌≤◌}
+use Rattle.iq_outside.specs.declared.device.Device.{Ghosts}
+use Rattle.iq_outside.specs.DeviceCalls.{KeepsPast, AddsNone}
 
 -- no block changed, the count of faults didn't fall, and a stop leaves nothing that a stop before could not have left
-pub record HasLooked {D : Type 0} (blocks : D → Option (List (List ℕ))) (faults : D → ℕ) (tells : D → Bool) (clock : D → ℕ)
-    (image : D → ℕ → List (List ℕ) → Type 0) (old new : D) : Type 0 where
-  pub unchanged : blocks new ≡ blocks old
-  pub later : faults old ≤ faults new
-  pub past : KeepsPast tells clock image old new
-  pub since : AddsNone clock image old new
+pub record HasLooked {D : Type 0} (g : Ghosts D) (old new : D) : Type 0 where
+  pub unchanged : g.blocks new ≡ g.blocks old
+  pub later : g.faults old ≤ g.faults new
+  pub past : KeepsPast g old new
+  pub since : AddsNone g old new

@@ -1,11 +1,12 @@
 //! Reading and writing one block.
 ghost use Rattle.std.specs.Prelude.{◌≡◌, ◌<◌, ℕ, true, List, Some, length, IfErr, OnOk};
-ghost use Rattle.iq_outside.specs.Devices.{HasWritten};
+ghost use Rattle.iq_outside.specs.DeviceCalls.{HasWritten};
 ghost use Rattle.iq_block_store.specs.Frames.{has_header, framed};
 ghost use Rattle.iq_block_store.specs.Faults.{ReadFails, WriteFails, IsBlockAt, CameUnlessFault};
 ghost use Rattle.iq_block_store.specs.Looks.{HasLooked};
 
-use crate::frames::{self, Page};
+use crate::frames;
+use iq_base::Page;
 use iq_outside::{Block, Device};
 use std::error::Error;
 use std::fmt;
@@ -35,7 +36,7 @@ impl Error for BlockFault {}
 /// Reads a block of a kind, header and payload. It takes no memory.
 pub fn read<D: Device>(disk: &mut D, at: u32, kind: u8, into: &mut Block) -> Result<(), BlockFault>
     requires { (all : List (List ℕ)) → D.blocks disk.old ≡ Some all → at < length all }
-    ensures looked { HasLooked D.blocks D.faults D.tells D.clock D.image disk.old disk.new }
+    ensures looked { HasLooked D.Device disk.old disk.new }
     ensures header { OnOk result (has_header kind at into.new ≡ true) }
     ensures block { OnOk result (IsBlockAt at into.new (D.blocks disk.old)) }
     ensures cause { IfErr result (λ e.
@@ -62,8 +63,7 @@ pub fn write<D: Device>(
     payload: &Page,
 ) -> Result<(), BlockFault>
     requires { (all : List (List ℕ)) → D.blocks disk.old ≡ Some all → at < length all }
-    ensures written { HasWritten D.blocks D.faults D.tells D.clock D.image
-        at (framed kind at level payload.now) result disk.old disk.new }
+    ensures written { HasWritten D.Device at (framed kind at level payload.now) result disk.old disk.new }
     ensures cause { IfErr result (λ e. WriteFails e (D.faults disk.old) (D.faults disk.new)) }
 {
     let before = disk.faults();

@@ -3,16 +3,26 @@ ghost use Rattle.std.specs.Prelude.{◌≡◌, ◌⊎◌, ◌+◌, ◌≤◌, �
 ghost use Rattle.iq_block_store.specs.Frames.{number_at, bytes_of, map_kind, has_header, header, framed, payload_of};
 
 use byteorder::{ByteOrder, LittleEndian};
+use iq_base::Page;
 use iq_outside::Block;
-
-/// What a block holds beside its header.
-pub type Page = [u8; 1008];
 
 /// The first 4 bytes of each block, `IQB1`, as a number.
 const MARK: u32 = 0x31425149;
 
+/// The kind of a root's body.
+pub const BODY: u8 = 1;
+
+/// The kind of a root's gate.
+pub const GATE: u8 = 2;
+
+/// The kind of a block of a table's descriptor.
+pub const DESCRIPTOR: u8 = 3;
+
 /// The kind of a map, whose header has a level.
-const MAP: u8 = 4;
+pub const MAP: u8 = 4;
+
+/// The kind of a page.
+pub const PAGE: u8 = 5;
 
 /// The number in the 4 bytes from a place on, the lowest first.
 #[tactic(auto, unfolding(crate::specs::Frames::number_at))]

@@ -7,8 +7,11 @@
 
 mod blocks;
 mod frames;
+mod store_faults;
 #[cfg(test)]
 mod tests;
 
 pub use blocks::{BlockFault, read, write};
-pub use frames::{Page, frame, has_header, number_at};
+pub use frames::{BODY, DESCRIPTOR, GATE, MAP, PAGE, frame, has_header, number_at};
+pub use iq_base::Page;
+pub use store_faults::{StoreFault, count_of, resize, sync};

@@ -1,10 +1,10 @@
 -- Legal histories: which entry is possible in a state, what it changes, and which replies a history gives.
 use Rattle.std.specs.Prelude.{◌≡◌, ◌≢◌, ◌⊎◌, ℕ, ◌+◌, List, [], ◌∷◌, ◌++◌, Option, Some, None, fold, drop, length, IsSomeAnd}
 use Rattle.std.specs.List.{slice_get}
-use Rattle.iq_base.specs.declared.names.Name.{Name}
+use Rattle.iq_base.specs.Shorts.{Name}
 use Rattle.iq_base.specs.declared.refusals.Refusal.{Refusal}
 use Rattle.iq_base.specs.declared.refusals.Refusal.TheVariants as refusals
-use Rattle.iq_base.specs.declared.answers.Answer.TheVariants as answers
+use Rattle.iq_model.specs.declared.answers.Answer.TheVariants as answers
 use Rattle.iq_ast.specs.declared.statements.Statement.{Statement}
 use Rattle.iq_ast.specs.declared.statements.Statement.TheVariants as statements
 use Rattle.iq_ast.specs.declared.statements.Write.{Write}
@@ -43,7 +43,13 @@ IsRunning (running run) P = P run
 abbrev pub IsOnTables : Statement → Type 0
 IsOnTables (statements.Write write) = Unit {0}
 IsOnTables (statements.Select select) = Unit {0}
-IsOnTables _ = ⊥
+IsOnTables statements.Begin = ⊥
+IsOnTables statements.Commit = ⊥
+IsOnTables statements.Rollback = ⊥
+IsOnTables (statements.Savepoint name) = ⊥
+IsOnTables (statements.BackTo name) = ⊥
+IsOnTables (statements.Release name) = ⊥
+IsOnTables statements.Sync = ⊥
 
 -- the line's transaction has begun, and its statement hasn't taken effect
 abbrev pub IsOpen : Stage → Type 0
@@ -51,13 +57,6 @@ IsOpen fresh = ⊥
 IsOpen begun = Unit {0}
 IsOpen locked = Unit {0}
 IsOpen done = ⊥
-
--- no entry that ends the line is there, nor one that says that its statement took effect
-abbrev pub IsBefore : Stage → Type 0
-IsBefore fresh = Unit {0}
-IsBefore begun = Unit {0}
-IsBefore locked = Unit {0}
-IsBefore done = ⊥
 
 -- the tests of a statement up to its locks
 abbrev pub checks_to_lock : State → ℕ → Run → Statement → List Check
@@ -95,7 +94,7 @@ pub record CanTake (statement : Statement) (run : Run) : Type 0 where
   pub held : not_held run.now.held (locks statement) ≡ []
   pub granted : first_refusal (statement_checks statement run.now.seen ++ room_checks statement run.now.seen) ≡ None
 
--- THE TABLE OF ENTRIES: where each is possible
+-- THE TABLE OF ENTRIES: where each is possible. Those that no line of a run makes are possible nowhere.
 
 abbrev pub DeskIs : State → ℕ → ℕ → (Desk → Statement → Type 0) → Type 0
 DeskIs s place l P = IsSomeAnd (slice_get s.desks place) (λ desk. LineIs desk.left l (P desk))
@@ -107,11 +106,25 @@ IsPossible s (entries.Lock place l names) = DeskIs s place l (λ desk statement.
 IsPossible s (entries.Done place l) = DeskIs s place l (λ desk statement.
     IsOpen desk.stage × IsRunning desk.standing (CanTake statement))
 IsPossible s (entries.Refused (Some place) l cause) = DeskIs s place l (λ desk. IsRefusal s place desk cause)
+IsPossible s (entries.Refused None l cause) = ⊥
 IsPossible s (entries.Commit place l c) = DeskIs s place l (λ desk statement.
     (desk.stage ≡ done) × (c ≡ s.latest + 1) × IsRunning desk.standing (λ run. run.now.held ≢ []))
 IsPossible s (entries.End place l) = DeskIs s place l (λ desk statement.
     (desk.stage ≡ done) × IsRunning desk.standing (λ run. run.now.held ≡ []))
-IsPossible s _ = ⊥
+IsPossible s (entries.Rollback place l) = ⊥
+IsPossible s (entries.Halt place l c before after) = ⊥
+IsPossible s (entries.Savepoint place l name) = ⊥
+IsPossible s (entries.Back place l name) = ⊥
+IsPossible s (entries.Release place l name) = ⊥
+IsPossible s (entries.Sync place l c) = ⊥
+IsPossible s (entries.Apply n l c) = ⊥
+IsPossible s (entries.Send n l number floor) = ⊥
+IsPossible s (entries.Lose l number) = ⊥
+IsPossible s (entries.Take l number horizon freed) = ⊥
+IsPossible s (entries.Own n l horizon freed) = ⊥
+IsPossible s (entries.Restart n l incarnation) = ⊥
+IsPossible s (entries.Space l census) = ⊥
+IsPossible s (entries.Versions l) = ⊥
 
 -- THE TABLE OF ENTRIES: what each changes
 
@@ -143,7 +156,14 @@ locks_more names desk = record desk { standing = worked (holds_more names) desk.
 -- the names that a statement creates beside those that it locks
 abbrev pub creates : Statement → List Name
 creates (statements.Write write) = created_by write
-creates _ = []
+creates (statements.Select select) = []
+creates statements.Begin = []
+creates statements.Commit = []
+creates statements.Rollback = []
+creates (statements.Savepoint name) = []
+creates (statements.BackTo name) = []
+creates (statements.Release name) = []
+creates statements.Sync = []
 
 abbrev pub takes_effect : Statement → Work → Work
 takes_effect statement work = record work { seen = tables_after statement work.seen; created = work.created ++ creates statement }
@@ -174,9 +194,23 @@ change s (entries.Begin place l c) = with_desk place (begins c (database_of s c)
 change s (entries.Lock place l names) = with_desk place (locks_more names) s
 change s (entries.Done place l) = with_desk place takes s
 change s (entries.Refused (Some place) l cause) = with_desk place ended s
+change s (entries.Refused None l cause) = s
 change s (entries.Commit place l c) = with_desk place ended (desk_commits (slice_get s.desks place) s)
 change s (entries.End place l) = with_desk place ended s
-change s _ = s
+change s (entries.Rollback place l) = s
+change s (entries.Halt place l c before after) = s
+change s (entries.Savepoint place l name) = s
+change s (entries.Back place l name) = s
+change s (entries.Release place l name) = s
+change s (entries.Sync place l c) = s
+change s (entries.Apply n l c) = s
+change s (entries.Send n l number floor) = s
+change s (entries.Lose l number) = s
+change s (entries.Take l number horizon freed) = s
+change s (entries.Own n l horizon freed) = s
+change s (entries.Restart n l incarnation) = s
+change s (entries.Space l census) = s
+change s (entries.Versions l) = s
 
 -- WHOLE HISTORIES
 
@@ -209,13 +243,19 @@ write_said (writes.CreateIndex name kind table column second) c = said.Created c
 write_said (writes.DropIndex table name) c = said.Dropped c
 write_said (writes.Insert table rows) c = said.Inserted (length rows) c
 write_said (writes.Load table rows text) c = said.Inserted rows c
-write_said (writes.Delete table cond) c = said.Deleted 0 c
-write_said (writes.Update table changes cond) c = said.Updated 0 c
+write_said (writes.Delete table cond) c = said.Ended
+write_said (writes.Update table changes cond) c = said.Ended
 
 abbrev pub statement_said : Statement → Option ℕ → Database → Said
 statement_said (statements.Write write) c seen = write_said write c
 statement_said (statements.Select select) c seen = said.Answer (answers.Rows (answer select seen))
-statement_said _ c seen = said.Ended
+statement_said statements.Begin c seen = said.Ended
+statement_said statements.Commit c seen = said.Ended
+statement_said statements.Rollback c seen = said.Ended
+statement_said (statements.Savepoint name) c seen = said.Ended
+statement_said (statements.BackTo name) c seen = said.Ended
+statement_said (statements.Release name) c seen = said.Ended
+statement_said statements.Sync c seen = said.Ended
 
 abbrev pub deed_said : Deed → Option ℕ → Database → Said
 deed_said (deeds.Statement statement) c seen = statement_said statement c seen
@@ -239,7 +279,23 @@ abbrev pub entry_replies : State → Entry → List Reply
 entry_replies s (entries.Refused place l cause) = record { line = l; said = said.Refused cause } ∷ []
 entry_replies s (entries.Commit place l c) = desk_reply (slice_get s.desks place) (Some c)
 entry_replies s (entries.End place l) = desk_reply (slice_get s.desks place) None
-entry_replies s _ = []
+entry_replies s (entries.Begin place l c) = []
+entry_replies s (entries.Lock place l names) = []
+entry_replies s (entries.Done place l) = []
+entry_replies s (entries.Rollback place l) = []
+entry_replies s (entries.Halt place l c before after) = []
+entry_replies s (entries.Savepoint place l name) = []
+entry_replies s (entries.Back place l name) = []
+entry_replies s (entries.Release place l name) = []
+entry_replies s (entries.Sync place l c) = []
+entry_replies s (entries.Apply n l c) = []
+entry_replies s (entries.Send n l number floor) = []
+entry_replies s (entries.Lose l number) = []
+entry_replies s (entries.Take l number horizon freed) = []
+entry_replies s (entries.Own n l horizon freed) = []
+entry_replies s (entries.Restart n l incarnation) = []
+entry_replies s (entries.Space l census) = []
+entry_replies s (entries.Versions l) = []
 
 -- the replies of a history, in its order
 abbrev pub replies : State → List Entry → List Reply

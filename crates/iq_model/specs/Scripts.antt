@@ -8,6 +8,7 @@ use Rattle.iq_ast.specs.declared.statements.Statement.{Statement}
 use Rattle.iq_ast.specs.declared.statements.Statement.TheVariants as statements
 use Rattle.iq_ast.specs.declared.statements.Write.TheVariants as writes
 use Rattle.iq_ast.specs.Built.{IsBuilt}
+use Rattle.iq_model.specs.Statements.{HasMeaning}
 use Rattle.iq_model.specs.declared.scripts.Deed.{Deed}
 use Rattle.iq_model.specs.declared.scripts.Deed.TheVariants as deeds
 use Rattle.iq_model.specs.declared.scripts.Line.{Line}
@@ -26,19 +27,39 @@ abbrev pub IsBuiltDeed : Deed → Type 0
 IsBuiltDeed (deeds.Statement statement) = IsBuilt statement
 IsBuiltDeed (deeds.Step step) = ⊥
 
+-- a deed that is a statement with a meaning
+abbrev pub HasDeedMeaning : Deed → Type 0
+HasDeedMeaning (deeds.Statement statement) = HasMeaning statement
+HasDeedMeaning (deeds.Step step) = ⊥
+
 -- an INSERT has at most 16,777,216 tuples
 abbrev pub HasFewTuples : Statement → Type 0
 HasFewTuples (statements.Write (writes.Insert table rows)) = length rows ≤ 16777216
-HasFewTuples _ = ⊤
+HasFewTuples (statements.Write (writes.CreateTable name schema)) = ⊤
+HasFewTuples (statements.Write (writes.DropTable name)) = ⊤
+HasFewTuples (statements.Write (writes.CreateIndex name kind table column second)) = ⊤
+HasFewTuples (statements.Write (writes.DropIndex table name)) = ⊤
+HasFewTuples (statements.Write (writes.Load table rows text)) = ⊤
+HasFewTuples (statements.Write (writes.Delete table cond)) = ⊤
+HasFewTuples (statements.Write (writes.Update table changes cond)) = ⊤
+HasFewTuples (statements.Select select) = ⊤
+HasFewTuples statements.Begin = ⊤
+HasFewTuples statements.Commit = ⊤
+HasFewTuples statements.Rollback = ⊤
+HasFewTuples (statements.Savepoint name) = ⊤
+HasFewTuples (statements.BackTo name) = ⊤
+HasFewTuples (statements.Release name) = ⊤
+HasFewTuples statements.Sync = ⊤
 
 abbrev pub HasFewDeedTuples : Deed → Type 0
 HasFewDeedTuples (deeds.Statement statement) = HasFewTuples statement
 HasFewDeedTuples (deeds.Step step) = ⊤
 
--- a line of the first session that is a statement of the grammar
+-- a line of the first session that is a statement of the grammar, and has a meaning
 pub record IsRunnableLine (line : Line) : Type 0 where
   pub session : line.session ≡ Some 0
   pub deed : IsBuiltDeed line.deed
+  pub meaning : HasDeedMeaning line.deed
   pub tuples : HasFewDeedTuples line.deed
 
 -- the numbers of the lines ascend, each above low

@@ -2,7 +2,7 @@
 use Rattle.std.specs.Prelude.{ℕ, ◌+◌, Bool, true, false, zero, suc, List, [], ◌∷◌, ◌++◌, Option, Some, None, nat_eq, nat_lt, map, filter, find, fold, if◌then◌else◌, unwrap_or}
 use Rattle.std.specs.List.{slice_get, list_any}
 use Rattle.std.specs.Option.{option_or}
-use Rattle.iq_base.specs.declared.names.Name.{Name}
+use Rattle.iq_base.specs.Shorts.{Name}
 use Rattle.iq_base.specs.declared.nodes.NodeKind.{NodeKind}
 use Rattle.iq_base.specs.declared.nodes.NodeKind.TheVariants as node_kinds
 use Rattle.iq_base.specs.declared.nodes.NodeSpec.{NodeSpec}
@@ -136,7 +136,14 @@ first_later wrote snapshot (name ∷ names) = option_or (later_refusal name snap
 -- the names that a statement locks; a query locks none
 abbrev pub locks : Statement → List Name
 locks (statements.Write write) = names_of write
-locks _ = []
+locks (statements.Select select) = []
+locks statements.Begin = []
+locks statements.Commit = []
+locks statements.Rollback = []
+locks (statements.Savepoint name) = []
+locks (statements.BackTo name) = []
+locks (statements.Release name) = []
+locks statements.Sync = []
 
 -- The tests of the names that a statement of this session's transaction would lock: held by another, written since.
 abbrev pub lock_checks : State → ℕ → Run → Statement → List Check

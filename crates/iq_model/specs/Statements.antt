@@ -1,15 +1,16 @@
 -- What the statements on tables mean over plain tables: the first refusal, the answer of a query, the effect of a write.
-use Rattle.std.specs.Prelude.{ℕ, ℤ, pos, negsuc, ◌+◌, Bool, true, false, List, [], ◌∷◌, Option, Some, None, nat_lt, nat_le, nat_eq, map, length, if◌then◌else◌, is_none, is_some}
-use Rattle.std.specs.List.{position, slice_get}
+-- Each form is named in each definition. Those that `HasMeaning` leaves out say nothing: no line of a run is one of them.
+use Rattle.std.specs.Prelude.{◌≡◌, ℕ, ℤ, pos, negsuc, ◌+◌, Bool, true, false, List, [], ◌∷◌, Option, Some, None, nat_lt, nat_le, nat_eq, map, length, if◌then◌else◌, is_none, is_some, ⊤}
+use Rattle.std.specs.List.{position, slice_get, AllByRecursion}
 use Rattle.std.specs.Option.{option_or}
-use Rattle.iq_base.specs.declared.names.Name.{Name}
+use Rattle.iq_base.specs.Shorts.{Name}
 use Rattle.iq_base.specs.declared.values.Value.{Value}
 use Rattle.iq_base.specs.declared.values.Value.TheVariants as values
 use Rattle.iq_base.specs.declared.values.Kind.{Kind}
 use Rattle.iq_base.specs.declared.values.Kind.TheVariants as kinds
 use Rattle.iq_base.specs.declared.schemas.Column.{Column}
-use Rattle.iq_base.specs.declared.answers.Out.{Out}
-use Rattle.iq_base.specs.declared.answers.Out.TheVariants as outs
+use Rattle.iq_model.specs.declared.answers.Out.{Out}
+use Rattle.iq_model.specs.declared.answers.Out.TheVariants as outs
 use Rattle.iq_base.specs.declared.refusals.Refusal.{Refusal}
 use Rattle.iq_base.specs.declared.refusals.Refusal.TheVariants as refusals
 use Rattle.iq_base.specs.declared.refusals.FieldCause.{FieldCause}
@@ -143,13 +144,24 @@ create_checks name db =
 -- the tests of what is named, and of the values, in the order in which they are made
 abbrev pub write_checks : Write → Database → List Check
 write_checks (writes.CreateTable name schema) db = create_checks name db
+write_checks (writes.DropTable name) db = []
+write_checks (writes.CreateIndex name kind table column second) db = []
+write_checks (writes.DropIndex table name) db = []
 write_checks (writes.Insert name rows) db = insert_checks name (table_of name db) rows
-write_checks _ db = []
+write_checks (writes.Load table rows text) db = []
+write_checks (writes.Delete table cond) db = []
+write_checks (writes.Update table changes cond) db = []
 
 abbrev pub statement_checks : Statement → Database → List Check
 statement_checks (statements.Write write) db = write_checks write db
 statement_checks (statements.Select select) db = select_checks select.table (table_of select.table db) select.items
-statement_checks _ db = []
+statement_checks statements.Begin db = []
+statement_checks statements.Commit db = []
+statement_checks statements.Rollback db = []
+statement_checks (statements.Savepoint name) db = []
+statement_checks (statements.BackTo name) db = []
+statement_checks (statements.Release name) db = []
+statement_checks statements.Sync db = []
 
 -- the test of a table's room
 abbrev pub room_check : Option Table → ℕ → List Check
@@ -159,8 +171,22 @@ room_check (Some t) count =
 
 -- the tests that come once the names are locked
 abbrev pub room_checks : Statement → Database → List Check
+room_checks (statements.Write (writes.CreateTable name schema)) db = []
+room_checks (statements.Write (writes.DropTable name)) db = []
+room_checks (statements.Write (writes.CreateIndex name kind table column second)) db = []
+room_checks (statements.Write (writes.DropIndex table name)) db = []
 room_checks (statements.Write (writes.Insert name rows)) db = room_check (table_of name db) (length rows)
-room_checks _ db = []
+room_checks (statements.Write (writes.Load table rows text)) db = []
+room_checks (statements.Write (writes.Delete table cond)) db = []
+room_checks (statements.Write (writes.Update table changes cond)) db = []
+room_checks (statements.Select select) db = []
+room_checks statements.Begin db = []
+room_checks statements.Commit db = []
+room_checks statements.Rollback db = []
+room_checks (statements.Savepoint name) db = []
+room_checks (statements.BackTo name) db = []
+room_checks (statements.Release name) db = []
+room_checks statements.Sync db = []
 
 -- LOCKS
 
@@ -178,7 +204,13 @@ names_of (writes.Update table changes cond) = locks_of false (Some table)
 -- the name that a write creates beside those that it locks
 abbrev pub created_by : Write → List Name
 created_by (writes.CreateTable name schema) = name ∷ []
-created_by _ = []
+created_by (writes.DropTable name) = []
+created_by (writes.CreateIndex name kind table column second) = []
+created_by (writes.DropIndex table name) = []
+created_by (writes.Insert name rows) = []
+created_by (writes.Load table rows text) = []
+created_by (writes.Delete table cond) = []
+created_by (writes.Update table changes cond) = []
 
 -- EFFECT
 
@@ -190,13 +222,80 @@ inserted (Some t) rows db = replaced (with_rows t rows) db
 -- the database that a write leaves, where it is not refused
 abbrev pub effect : Write → Database → Database
 effect (writes.CreateTable name schema) db = placed (empty_table name schema.columns) db
+effect (writes.DropTable name) db = db
+effect (writes.CreateIndex name kind table column second) db = db
+effect (writes.DropIndex table name) db = db
 effect (writes.Insert name rows) db = inserted (table_of name db) rows db
-effect _ db = db
+effect (writes.Load table rows text) db = db
+effect (writes.Delete table cond) db = db
+effect (writes.Update table changes cond) db = db
 
 -- the tables that a statement leaves
 abbrev pub tables_after : Statement → Database → Database
 tables_after (statements.Write write) db = effect write db
-tables_after _ db = db
+tables_after (statements.Select select) db = db
+tables_after statements.Begin db = db
+tables_after statements.Commit db = db
+tables_after statements.Rollback db = db
+tables_after (statements.Savepoint name) db = db
+tables_after (statements.BackTo name) db = db
+tables_after (statements.Release name) db = db
+tables_after statements.Sync db = db
+
+-- WHAT HAS A MEANING
+
+-- the writes whose effect and tests are told here: CREATE TABLE and INSERT
+abbrev pub HasWriteMeaning : Write → Type 0
+HasWriteMeaning (writes.CreateTable name schema) = ⊤
+HasWriteMeaning (writes.DropTable name) = ⊥
+HasWriteMeaning (writes.CreateIndex name kind table column second) = ⊥
+HasWriteMeaning (writes.DropIndex table name) = ⊥
+HasWriteMeaning (writes.Insert name rows) = ⊤
+HasWriteMeaning (writes.Load table rows text) = ⊥
+HasWriteMeaning (writes.Delete table cond) = ⊥
+HasWriteMeaning (writes.Update table changes cond) = ⊥
+
+-- a column by its name
+abbrev pub IsColumnItem : Item → Type 0
+IsColumnItem (items.Plain name) = ⊤
+IsColumnItem items.CountAll = ⊥
+IsColumnItem (items.Count name) = ⊥
+IsColumnItem (items.Sum name) = ⊥
+IsColumnItem (items.Min name) = ⊥
+IsColumnItem (items.Max name) = ⊥
+
+-- a member of a SELECT's list with those behind it: columns all, or the number of rows alone
+abbrev pub HasMembersMeaning : Item → List Item → Type 0
+HasMembersMeaning (items.Plain name) more = AllByRecursion IsColumnItem more
+HasMembersMeaning items.CountAll more = more ≡ []
+HasMembersMeaning (items.Count name) more = ⊥
+HasMembersMeaning (items.Sum name) more = ⊥
+HasMembersMeaning (items.Min name) more = ⊥
+HasMembersMeaning (items.Max name) more = ⊥
+
+abbrev pub HasListMeaning : List Item → Type 0
+HasListMeaning [] = ⊥
+HasListMeaning (item ∷ more) = HasMembersMeaning item more
+
+-- the queries whose answer is told here: all rows of a table, not grouped, not ordered, not explained
+pub record HasSelectMeaning (select : Select) : Type 0 where
+  pub list : HasListMeaning select.items
+  pub answered : select.explain ≡ false
+  pub all_rows : select.cond ≡ None
+  pub not_grouped : select.group ≡ []
+  pub not_ordered : select.order ≡ []
+
+-- the statements that have a meaning here; no line of a run has another
+abbrev pub HasMeaning : Statement → Type 0
+HasMeaning (statements.Write write) = HasWriteMeaning write
+HasMeaning (statements.Select select) = HasSelectMeaning select
+HasMeaning statements.Begin = ⊥
+HasMeaning statements.Commit = ⊥
+HasMeaning statements.Rollback = ⊥
+HasMeaning (statements.Savepoint name) = ⊥
+HasMeaning (statements.BackTo name) = ⊥
+HasMeaning (statements.Release name) = ⊥
+HasMeaning statements.Sync = ⊥
 
 -- ANSWER
 
@@ -215,10 +314,14 @@ abbrev pub value_at : Option ℕ → List Value → Out
 value_at None row = outs.Null
 value_at (Some place) row = value_or_null (slice_get row place)
 
--- the value of a plain member in a row
+-- the value of a member in a row: the column's; a member that counts or sums rows has none in one row
 abbrev pub item_value : List Column → Item → List Value → Out
 item_value columns (items.Plain name) row = value_at (column_place columns name) row
-item_value columns _ row = outs.Null
+item_value columns items.CountAll row = outs.Null
+item_value columns (items.Count name) row = outs.Null
+item_value columns (items.Sum name) row = outs.Null
+item_value columns (items.Min name) row = outs.Null
+item_value columns (items.Max name) row = outs.Null
 
 -- one row of the answer: each member's value
 abbrev pub projected : List Column → List Item → List Value → List Out

@@ -2,7 +2,7 @@
 use Rattle.std.specs.Prelude.{Bool, true, false, List, [], ◌∷◌, ◌++◌, Option, Some, None, nat_eq, filter, map, find, if◌then◌else◌}
 use Rattle.std.specs.Ordering.{nat_cmp, is_gt}
 use Rattle.std.specs.Cmp.Lexicographic.{pointwise, slice_cmp}
-use Rattle.iq_base.specs.declared.names.Name.{Name}
+use Rattle.iq_base.specs.Shorts.{Name}
 use Rattle.iq_base.specs.declared.values.Value.{Value}
 use Rattle.iq_base.specs.declared.schemas.Column.{Column}
 
@@ -17,7 +17,7 @@ pub record Table : Type 0 where
   pub columns : List Column
   pub slots : List Slot
 
--- a database is a list of tables, with ascending names
+-- a database is a list of tables, in the order in which they are looked up
 abbrev pub Database : Type 0
 Database = List Table
 

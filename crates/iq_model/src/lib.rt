@@ -5,6 +5,7 @@
 //! and `iq_history`; above stands every crate that promises what a run means.
 #![tactic(auto)]
 
+mod answers;
 mod checks;
 mod locking;
 mod projection;
@@ -13,8 +14,9 @@ mod scripts;
 #[cfg(test)]
 mod tests;
 
+pub use answers::{Answer, Freed, NodeVersion, Out, Sent, Versions};
 pub use checks::{column_place, first_bad_row, first_no_column};
 pub use locking::names_of;
 pub use projection::{out_of, projected_row};
-pub use replies::{Reply, Said};
+pub use replies::{Reply, Said, write_said};
 pub use scripts::{Deed, Line, Script, Step};

@@ -3,9 +3,10 @@ ghost use Rattle.std.specs.Prelude.{◌≡◌, IfOk};
 ghost use Rattle.std.specs.Option.{option_copied};
 ghost use Rattle.iq_model.specs.Statements.{out_of, value_or_null, value_at, item_value, projected};
 
+use crate::answers::Out;
 use crate::checks::column_place;
 use iq_ast::Item;
-use iq_base::{Column, Listed, NoMemory, Out, Value};
+use iq_base::{Column, Listed, NoMemory, Value};
 use std::alloc::Global;
 
 /// One row of an answer: each member's value.
@@ -41,7 +42,7 @@ fn item_value(columns: &[Column], item: &Item, row: &[Value]) -> Out
 {
     match item {
         Item::Plain(name) => value_at(column_place(columns, name), row),
-        _ => Out::Null,
+        Item::CountAll | Item::Count(_) | Item::Sum(_) | Item::Min(_) | Item::Max(_) => Out::Null,
     }
 }
 

@@ -1,14 +1,14 @@
 -- What a record of changes says of each moment.
-use Rattle.std.specs.Prelude.{◌≡◌, ◌≢◌, ◌⊎◌, ℕ, ◌+◌, ◌<◌, ◌≤◌, Bool, true, false, List, [], ◌∷◌, ◌++◌, length, take, drop, fold, nat_eq, slice_set, Option, Some}
+use Rattle.std.specs.Prelude.{◌≡◌, ◌≢◌, ◌⊎◌, ℕ, ◌+◌, ◌<◌, ◌≤◌, Bool, true, false, List, [], ◌∷◌, ◌++◌, length, take, drop, nat_eq, slice_set, Some, if◌then◌else◌}
 use Rattle.std.specs.List.{list_any}
 use Rattle.std.proofs.Common.{refl, sym, ap, ◌∙◌, inl, inr, arith, length-append, length-set, get_or-set_same, get_or-set_other}
 use Rattle.std.proofs.lemmas.List.{take-append-le, drop-append-le, take_all, drop_all, set-set, set-get_or, ext_get_or}
 use Rattle.std.proofs.lemmas.List.Sums.{fold-append}
-use Rattle.std.proofs.lemmas.Bool.{cases_lt, cases_order, ne_eqb}
-use Rattle.iq_outside.specs.Devices.{block_of, SameBut, KeepsPast, AddsNone, AddsAt, IsSettled}
-use Rattle.iq_outside.specs.Changes.{Recording, undone, undone_all, waiting_after, waiting, IsTorn, recorded_image, Adds}
+use Rattle.std.proofs.lemmas.Bool.{cases_lt, cases_order, ne_eqb, eqb-true}
+use Rattle.iq_outside.specs.Devices.{block_of, SameBut, GoesOn, StopsSame, StopsBut, WholeSame, WholeBut, Settled}
+use Rattle.iq_outside.specs.Changes.{Recording, undone, undone_all, waiting_after, waiting, IsTorn, recorded_image, overwritten_after, overwritten, IsAmong, recorded_whole, recording_seen, Adds}
 use Rattle.iq_outside.specs.declared.recorded.Change.{Change}
-use Rattle.iq_outside.specs.declared.recorded.Change.TheVariants.{Wrote, Resized, Synced}
+use Rattle.iq_outside.specs.declared.recorded.Change.TheVariants.{Wrote, Synced}
 
 pub SameBut-refl : (at : ℕ) (b : List (List ℕ)) → SameBut at b b
 SameBut-refl at b = record { size = refl; others = λ i other. refl }
@@ -75,42 +75,86 @@ torn_now now t b late image =
 length_added : (change : Change) (old new : Recording) → Adds change old new → length new.changes ≡ length old.changes + 1
 length_added change old new adds = ap length adds.changes ∙ length-append old.changes (change ∷ [])
 
+-- the bytes that were whole at an earlier moment stay the same
+overwritten_past : (change : Change) (old new : Recording) → Adds change old new → (t i : ℕ) → t ≤ length old.changes
+    → overwritten i (take t new.changes) ≡ overwritten i (take t old.changes)
+overwritten_past change old new adds t i early =
+    ap (λ (cs : List Change). overwritten i (take t cs)) adds.changes
+    ∙ ap (overwritten i) (take-append-le t old.changes (change ∷ []) early)
+
+whole_along : (blocks blocks' olds olds' : List (List ℕ)) (i : ℕ) (x : List ℕ) → blocks ≡ blocks' → olds ≡ olds'
+    → (x ≡ block_of blocks i) ⊎ IsAmong x olds → (x ≡ block_of blocks' i) ⊎ IsAmong x olds'
+whole_along blocks blocks' olds olds' i x e f whole = rw (← e, ← f) whole
+
+whole_keeps : (change : Change) (old new : Recording) → Adds change old new → (t i : ℕ) (x : List ℕ) → t ≤ length old.changes
+    → recorded_whole old t i x → recorded_whole new t i x
+whole_keeps change old new adds t i x early whole =
+    whole_along _ _ _ _ i x (sym (blocks_past change old new adds t early)) (sym (overwritten_past change old new adds t i early)) whole
+
+whole_no_more : (change : Change) (old new : Recording) → Adds change old new → (t i : ℕ) (x : List ℕ) → t ≤ length old.changes
+    → recorded_whole new t i x → recorded_whole old t i x
+whole_no_more change old new adds t i x early whole =
+    whole_along _ _ _ _ i x (blocks_past change old new adds t early) (overwritten_past change old new adds t i early) whole
+
+-- what is whole now
+abbrev WholeNow : Recording → ℕ → List ℕ → Type 0
+WholeNow now i x = (x ≡ block_of now.blocks i) ⊎ IsAmong x (overwritten i now.changes)
+
+whole_at : (now : Recording) (t i : ℕ) (x : List ℕ) → length now.changes ≤ t → WholeNow now i x → recorded_whole now t i x
+whole_at now t i x late whole =
+    whole_along _ _ _ _ i x
+    (ap (λ (cs : List Change). undone_all cs now.blocks) (sym (drop_all t now.changes late)))
+    (ap (overwritten i) (sym (take_all t now.changes late))) whole
+
+whole_now : (now : Recording) (t i : ℕ) (x : List ℕ) → length now.changes ≤ t → recorded_whole now t i x → WholeNow now i x
+whole_now now t i x late whole =
+    whole_along _ _ _ _ i x
+    (ap (λ (cs : List Change). undone_all cs now.blocks) (drop_all t now.changes late))
+    (ap (overwritten i) (take_all t now.changes late)) whole
+
 -- one more change keeps the past
-pub adds_keeps : {D : Type 0} (kept : D → Recording) (change : Change) (old new : D) → Adds change (kept old) (kept new)
-    → KeepsPast (λ (d : D). true) (λ (d : D). length (kept d).changes) (λ (d : D). recorded_image (kept d)) old new
-adds_keeps kept change old new adds = record {
+pub adds_keeps : (f g : ℕ) (change : Change) (old new : Recording) → Adds change old new → GoesOn (recording_seen f old) (recording_seen g new)
+adds_keeps f g change old new adds = record {
   same = refl;
-  later = omega (arith, length_added change (kept old) (kept new) adds);
-  keeps = image_keeps change (kept old) (kept new) adds;
-  no_more = image_no_more change (kept old) (kept new) adds;
+  later = omega (arith, length_added change old new adds);
+  keeps = image_keeps change old new adds;
+  no_more = image_no_more change old new adds;
+  keeps_whole = whole_keeps change old new adds;
+  whole_before = whole_no_more change old new adds;
 }
 
 -- it raises the clock
-pub adds_raises : {D : Type 0} (kept : D → Recording) (change : Change) (old new : D) → Adds change (kept old) (kept new)
-    → length (kept old).changes < length (kept new).changes
-adds_raises kept change old new adds = omega (arith, length_added change (kept old) (kept new) adds)
+pub adds_raises : (change : Change) (old new : Recording) → Adds change old new → length old.changes < length new.changes
+adds_raises change old new adds = omega (arith, length_added change old new adds)
 
 -- no change keeps all
-pub unmoved_keeps : {D : Type 0} (kept : D → Recording) (old new : D) → kept new ≡ kept old
-    → KeepsPast (λ (d : D). true) (λ (d : D). length (kept d).changes) (λ (d : D). recorded_image (kept d)) old new
-unmoved_keeps kept old new same = record {
+pub unmoved_keeps : (f g : ℕ) (old new : Recording) → new ≡ old → GoesOn (recording_seen f old) (recording_seen g new)
+unmoved_keeps f g old new same = record {
   same = refl;
   later = omega (arith, ap (λ (r : Recording). length r.changes) same);
   keeps = λ t b early image. rw same image;
   no_more = λ t b early image. rw (← same) image;
+  keeps_whole = λ t i x early whole. rw same whole;
+  whole_before = λ t i x early whole. rw (← same) whole;
 }
 
-pub unmoved_adds_none : {D : Type 0} (kept : D → Recording) (old new : D) → kept new ≡ kept old
-    → AddsNone (λ (d : D). length (kept d).changes) (λ (d : D). recorded_image (kept d)) old new
-unmoved_adds_none kept old new same t b since until image =
-    let now : t ≡ length (kept old).changes = omega (arith, ap (λ (r : Recording). length r.changes) same, since, until) in
-    let before : recorded_image (kept old) t b = rw (← same) image in
-    rw (← now) before
+-- the moments of a call that changed nothing are one
+unmoved_moment : (old new : Recording) (t : ℕ) → new ≡ old → length old.changes ≤ t → t ≤ length new.changes → t ≡ length old.changes
+unmoved_moment old new t same since until = omega (arith, ap (λ (r : Recording). length r.changes) same, since, until)
 
-pub unmoved_adds_at : {D : Type 0} (kept : D → Recording) (at : ℕ) (old new : D) → kept new ≡ kept old
-    → AddsAt at (λ (d : D). length (kept d).changes) (λ (d : D). recorded_image (kept d)) old new
-unmoved_adds_at kept at old new same t b since until image =
-    (b, unmoved_adds_none kept old new same t b since until image, SameBut-refl at b)
+pub unmoved_same : (f g : ℕ) (old new : Recording) → new ≡ old → StopsSame (recording_seen f old) (recording_seen g new)
+unmoved_same f g old new same t b since until image =
+    let before : recorded_image old t b = rw (← same) image in
+    rw (← unmoved_moment old new t same since until) before
+
+pub unmoved_but : (f g at : ℕ) (old new : Recording) → new ≡ old → StopsBut at (recording_seen f old) (recording_seen g new)
+unmoved_but f g at old new same t b since until image =
+    (b, unmoved_same f g old new same t b since until image, SameBut-refl at b)
+
+pub unmoved_whole : (f g : ℕ) (old new : Recording) → new ≡ old → WholeSame (recording_seen f old) (recording_seen g new)
+unmoved_whole f g old new same t i x since until whole =
+    let before : recorded_whole old t i x = rw (← same) whole in
+    rw (← unmoved_moment old new t same since until) before
 
 -- what a write may leave is, but for its place, what could be left before
 torn_before : (blocks b : List (List ℕ)) (w : List ℕ) (at : ℕ) (block : List ℕ) → at < length blocks → IsTorn (slice_set blocks at block) (at ∷ w) b
@@ -128,51 +172,108 @@ torn_before blocks b w at block within torn =
       ];
     }
 
-pub write_adds_at : {D : Type 0} (kept : D → Recording) (at : ℕ) (block : List ℕ) (old new : D)
-    → Adds (Wrote at (block_of (kept old).blocks at)) (kept old) (kept new)
-    → (kept new).blocks ≡ slice_set (kept old).blocks at block → at < length (kept old).blocks
-    → AddsAt at (λ (d : D). length (kept d).changes) (λ (d : D). recorded_image (kept d)) old new
-write_adds_at kept at block old new adds set within t b since until image =
-    let change = Wrote at (block_of (kept old).blocks at) in
-    elim (cases_lt (length (kept old).changes) t) [
+-- a change at a moment of the call: it was made, or it is yet to come
+pub write_but : (f g at : ℕ) (block : List ℕ) (old new : Recording)
+    → Adds (Wrote at (block_of old.blocks at)) old new → new.blocks ≡ slice_set old.blocks at block → at < length old.blocks
+    → StopsBut at (recording_seen f old) (recording_seen g new)
+write_but f g at block old new adds set within t b since until image =
+    let change = Wrote at (block_of old.blocks at) in
+    elim (cases_lt (length old.changes) t) [
       | inl after ↦ (
-          let late : length (kept new).changes ≤ t = omega (arith, after, length_added change (kept old) (kept new) adds) in
-          let waits : waiting (kept new).changes ≡ at ∷ waiting (kept old).changes
-          = ap waiting adds.changes ∙ fold-append waiting_after [] (kept old).changes (change ∷ []) in
-          let torn : IsTorn (slice_set (kept old).blocks at block) (at ∷ waiting (kept old).changes) b
-          = IsTorn-along _ _ _ _ b set waits (torn_now (kept new) t b late image) in (
-            slice_set b at (block_of (kept old).blocks at),
-            image_now (kept old) (length (kept old).changes) _ (omega arith) (torn_before (kept old).blocks b (waiting (kept old).changes) at block within torn),
-            SameBut-sym at _ _ (SameBut-set at b (block_of (kept old).blocks at)),
+          let late : length new.changes ≤ t = omega (arith, after, length_added change old new adds) in
+          let waits : waiting new.changes ≡ at ∷ waiting old.changes
+          = ap waiting adds.changes ∙ fold-append waiting_after [] old.changes (change ∷ []) in
+          let torn : IsTorn (slice_set old.blocks at block) (at ∷ waiting old.changes) b
+          = IsTorn-along _ _ _ _ b set waits (torn_now new t b late image) in (
+            slice_set b at (block_of old.blocks at),
+            image_now old (length old.changes) _ (omega arith) (torn_before old.blocks b (waiting old.changes) at block within torn),
+            SameBut-sym at _ _ (SameBut-set at b (block_of old.blocks at)),
           ))
       | inr early ↦ (
-          let now : t ≡ length (kept old).changes = omega (arith, since, early) in
-          let before : recorded_image (kept old) t b = image_no_more change (kept old) (kept new) adds t b early image in
+          let now : t ≡ length old.changes = omega (arith, since, early) in
+          let before : recorded_image old t b = image_no_more change old new adds t b early image in
           (b, rw (← now) before, SameBut-refl at b))
+    ]
+
+-- what is whole after a write was whole before, or is the block
+among_more : (v : Bool) (x block : List ℕ) (olds : List (List ℕ)) → IsAmong x (if v then block ∷ olds else olds) → ((v ≡ true) × (x ≡ block)) ⊎ IsAmong x olds
+among_more true x block olds (inl is) = inl (refl, is)
+among_more true x block olds (inr rest) = inr rest
+among_more false x block olds rest = inr rest
+
+wrote_whole : (at : ℕ) (block : List ℕ) (old : Recording) (i : ℕ) (x : List ℕ) → at < length old.blocks
+    → (x ≡ block_of (slice_set old.blocks at block) i) ⊎ IsAmong x (overwritten_after i (overwritten i old.changes) (Wrote at (block_of old.blocks at)))
+    → WholeNow old i x ⊎ ((i ≡ at) × (x ≡ block))
+wrote_whole at block old i x within (inl is) = elim (cases_order i at) [
+  | inl here ↦ inr (here, is ∙ ap (block_of (slice_set old.blocks at block)) here ∙ get_or-set_same old.blocks at block [] within)
+  | inr apart ↦ inl (inl (is ∙ get_or-set_other old.blocks at i block [] (omega (arith, apart))))
+]
+wrote_whole at block old i x within (inr among) = elim (among_more (nat_eq i at) x (block_of old.blocks at) (overwritten i old.changes) among) [
+  | inl here ↦ inl (inl (here.1 ∙ ap (block_of old.blocks) (sym (eqb-true i at here.0))))
+  | inr rest ↦ inl (inr rest)
+]
+
+whole_later : (now : Recording) (at : ℕ) (block : List ℕ) (i : ℕ) (x : List ℕ) → WholeNow now i x ⊎ ((i ≡ at) × (x ≡ block))
+    → recorded_whole now (length now.changes) i x ⊎ ((i ≡ at) × (x ≡ block))
+whole_later now at block i x (inl before) = inl (whole_at now (length now.changes) i x (omega arith) before)
+whole_later now at block i x (inr written) = inr written
+
+pub write_whole : (f g at : ℕ) (block : List ℕ) (old new : Recording)
+    → Adds (Wrote at (block_of old.blocks at)) old new → new.blocks ≡ slice_set old.blocks at block → at < length old.blocks
+    → WholeBut at block (recording_seen f old) (recording_seen g new)
+write_whole f g at block old new adds set within t i x since until whole =
+    let change = Wrote at (block_of old.blocks at) in
+    elim (cases_lt (length old.changes) t) [
+      | inl after ↦ (
+          let late : length new.changes ≤ t = omega (arith, after, length_added change old new adds) in
+          let olds : overwritten i new.changes ≡ overwritten_after i (overwritten i old.changes) change
+          = ap (overwritten i) adds.changes ∙ fold-append (overwritten_after i) [] old.changes (change ∷ []) in
+          whole_later old at block i x (wrote_whole at block old i x within (whole_along _ _ _ _ i x set olds (whole_now new t i x late whole))))
+      | inr early ↦ (
+          let now : t ≡ length old.changes = omega (arith, since, early) in
+          let before : recorded_whole old t i x = whole_no_more change old new adds t i x early whole in
+          inl (rw (← now) before))
     ]
 
 -- after a sync nothing waits
 synced_waits : (old new : Recording) → Adds Synced old new → waiting new.changes ≡ []
 synced_waits old new adds = ap waiting adds.changes ∙ fold-append waiting_after [] old.changes (Synced ∷ [])
 
-pub sync_adds_none : {D : Type 0} (kept : D → Recording) (old new : D) → Adds Synced (kept old) (kept new)
-    → AddsNone (λ (d : D). length (kept d).changes) (λ (d : D). recorded_image (kept d)) old new
-sync_adds_none kept old new adds t b since until image =
-    elim (cases_lt (length (kept old).changes) t) [
+pub sync_same : (f g : ℕ) (old new : Recording) → Adds Synced old new → StopsSame (recording_seen f old) (recording_seen g new)
+sync_same f g old new adds t b since until image =
+    elim (cases_lt (length old.changes) t) [
       | inl after ↦ (
-          let late : length (kept new).changes ≤ t = omega (arith, after, length_added Synced (kept old) (kept new) adds) in
-          let torn : IsTorn (kept old).blocks [] b
-          = IsTorn-along _ _ _ _ b adds.undone (synced_waits (kept old) (kept new) adds) (torn_now (kept new) t b late image) in
-          image_now (kept old) (length (kept old).changes) b (omega arith) (record { size = torn.size; others = λ i free. torn.others i refl }))
+          let late : length new.changes ≤ t = omega (arith, after, length_added Synced old new adds) in
+          let torn : IsTorn old.blocks [] b
+          = IsTorn-along _ _ _ _ b adds.undone (synced_waits old new adds) (torn_now new t b late image) in
+          image_now old (length old.changes) b (omega arith) (record { size = torn.size; others = λ i free. torn.others i refl }))
       | inr early ↦ (
-          let now : t ≡ length (kept old).changes = omega (arith, since, early) in
-          let before : recorded_image (kept old) t b = image_no_more Synced (kept old) (kept new) adds t b early image in
+          let now : t ≡ length old.changes = omega (arith, since, early) in
+          let before : recorded_image old t b = image_no_more Synced old new adds t b early image in
           rw (← now) before)
     ]
 
-pub sync_settles : {D : Type 0} (kept : D → Recording) (old new : D) → Adds Synced (kept old) (kept new)
-    → IsSettled (λ (d : D). Some (kept d).blocks) (λ (d : D). length (kept d).changes) (λ (d : D). recorded_image (kept d)) new
-sync_settles kept old new adds b image =
-    let torn : IsTorn (kept new).blocks [] b
-    = IsTorn-along _ _ _ _ b refl (synced_waits (kept old) (kept new) adds) (torn_now (kept new) (length (kept new).changes) b (omega arith) image) in
-    ap Some (sym (ext_get_or [] b (kept new).blocks torn.size (λ i within. torn.others i refl)))
+-- and the bytes that are read are the only whole ones
+synced_whole : (blocks : List (List ℕ)) (i : ℕ) (x : List ℕ) → (x ≡ block_of blocks i) ⊎ IsAmong x [] → x ≡ block_of blocks i
+synced_whole blocks i x (inl is) = is
+synced_whole blocks i x (inr none) = absurd none
+
+pub sync_whole : (f g : ℕ) (old new : Recording) → Adds Synced old new → WholeSame (recording_seen f old) (recording_seen g new)
+sync_whole f g old new adds t i x since until whole =
+    elim (cases_lt (length old.changes) t) [
+      | inl after ↦ (
+          let late : length new.changes ≤ t = omega (arith, after, length_added Synced old new adds) in
+          let olds : overwritten i new.changes ≡ [] = ap (overwritten i) adds.changes ∙ fold-append (overwritten_after i) [] old.changes (Synced ∷ []) in
+          whole_at old (length old.changes) i x (omega arith)
+          (inl (synced_whole old.blocks i x (whole_along _ _ _ _ i x adds.undone olds (whole_now new t i x late whole)))))
+      | inr early ↦ (
+          let now : t ≡ length old.changes = omega (arith, since, early) in
+          let before : recorded_whole old t i x = whole_no_more Synced old new adds t i x early whole in
+          rw (← now) before)
+    ]
+
+pub sync_settles : (g : ℕ) (old new : Recording) → Adds Synced old new → Settled (recording_seen g new)
+sync_settles g old new adds b image =
+    let torn : IsTorn new.blocks [] b
+    = IsTorn-along _ _ _ _ b refl (synced_waits old new adds) (torn_now new (length new.changes) b (omega arith) image) in
+    ap Some (sym (ext_get_or [] b new.blocks torn.size (λ i within. torn.others i refl)))

@@ -1,5 +1,5 @@
 -- The calls of a memory form: how many there were, and which fail.
-use Rattle.std.specs.Prelude.{◌≡◌, ℕ, ◌+◌, ◌-◌, ◌^◌, min, Bool, true, false, ◌||◌, List, nat_eq, IsTrue, if◌then◌else◌}
+use Rattle.std.specs.Prelude.{ℕ, ◌+◌, ◌-◌, ◌^◌, min, Bool, List, nat_eq, Result, Ok, Err, if◌then◌else◌}
 use Rattle.std.specs.List.{list_any}
 
 -- the calls so far, the numbers (from 1) of those that are to fail, and how many have failed
@@ -31,6 +31,11 @@ after_call plan = record {
 -- the plan after a failure that no number named
 abbrev pub after_fault : Plan → Plan
 after_fault plan = record plan { faults = next_of plan.faults }
+
+-- the plan after a call that answered so: one that failed with no number is one more failure
+abbrev pub plan_after : {T E : Type 0} → Result T E → Plan → Plan
+plan_after (Ok x) plan = after_call plan
+plan_after (Err e) plan = if is_listed plan then after_call plan else after_fault (after_call plan)
 
 -- what a memory source has left, and its calls
 pub record Reading : Type 0 where

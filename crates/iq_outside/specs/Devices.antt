@@ -1,6 +1,7 @@
--- What one call of a device did, as its caller sees it. A device is seen by five members: its blocks where it tells them, its
--- count of faults, whether it tells what a stop may leave, the present moment, and what a stop at a moment may have left.
-use Rattle.std.specs.Prelude.{◌≡◌, ◌≢◌, ◌⊎◌, ℕ, ◌+◌, ◌-◌, ◌<◌, ◌≤◌, Bool, IsTrue, List, [], ◌++◌, length, take, Option, Some, None, Result, OnOk, OnErr, IfOk, replicate, slice_index_or, slice_set}
+-- What one call of a device did, as its caller sees it. A device is seen by six members: its blocks where it tells them, its count
+-- of faults, whether it tells what a stop may leave, the present moment, what a stop at a moment may have left, and which bytes of
+-- a block were whole then.
+use Rattle.std.specs.Prelude.{◌≡◌, ◌≢◌, ◌⊎◌, ℕ, ◌-◌, ◌<◌, ◌≤◌, Bool, IsTrue, List, [], ◌++◌, length, take, Option, Some, None, Result, OnOk, OnErr, IfOk, replicate, slice_index_or, slice_set}
 use Rattle.iq_outside.specs.Faults.{CountsFaults}
 
 -- a block of zeros
@@ -46,70 +47,107 @@ pub record Cut {T E : Type 0} (n : ℕ) (result : Result T E) (old new : Option 
       → OnErr result ((after : List (List ℕ)) × (new ≡ Some after) × (take n (take (length blocks) after) ≡ take n blocks))
   pub untold : old ≡ None → new ≡ None
 
--- Time goes on: the present moment never falls, and what a stop at an earlier one may have left stays the same.
-pub record KeepsPast {D : Type 0} (tells : D → Bool) (clock : D → ℕ) (image : D → ℕ → List (List ℕ) → Type 0) (old new : D) : Type 0 where
-  pub same : tells new ≡ tells old
-  pub later : clock old ≤ clock new
-  pub keeps : (t : ℕ) (b : List (List ℕ)) → t ≤ clock old → image old t b → image new t b
-  pub no_more : (t : ℕ) (b : List (List ℕ)) → t ≤ clock old → image new t b → image old t b
+-- what is seen of a device at one time
+pub record Seen : Type 1 where
+  pub blocks : Option (List (List ℕ))
+  pub faults : ℕ
+  pub tells : Bool
+  pub clock : ℕ
+  pub image : ℕ → List (List ℕ) → Type 0
+  pub whole : ℕ → ℕ → List ℕ → Type 0
+
+-- what is seen of a value, by the six meanings of its type
+abbrev pub seen : {D : Type 0} → (D → Option (List (List ℕ))) → (D → ℕ) → (D → Bool) → (D → ℕ) → (D → ℕ → List (List ℕ) → Type 0)
+    → (D → ℕ → ℕ → List ℕ → Type 0) → D → Seen
+seen blocks faults tells clock image whole d = record {
+  blocks = blocks d;
+  faults = faults d;
+  tells = tells d;
+  clock = clock d;
+  image = image d;
+  whole = whole d;
+}
+
+-- Time goes on: the present moment never falls, and what a stop at an earlier one may have left, and what was whole then, stays the
+-- same.
+pub record GoesOn (old new : Seen) : Type 0 where
+  pub same : new.tells ≡ old.tells
+  pub later : old.clock ≤ new.clock
+  pub keeps : (t : ℕ) (b : List (List ℕ)) → t ≤ old.clock → old.image t b → new.image t b
+  pub no_more : (t : ℕ) (b : List (List ℕ)) → t ≤ old.clock → new.image t b → old.image t b
+  pub keeps_whole : (t i : ℕ) (x : List ℕ) → t ≤ old.clock → old.whole t i x → new.whole t i x
+  pub whole_before : (t i : ℕ) (x : List ℕ) → t ≤ old.clock → new.whole t i x → old.whole t i x
 
 -- what a stop meanwhile may leave, a stop before could have left too
-abbrev pub AddsNone : {D : Type 0} → (D → ℕ) → (D → ℕ → List (List ℕ) → Type 0) → D → D → Type 0
-AddsNone clock image old new = (t : ℕ) (b : List (List ℕ)) → clock old ≤ t → t ≤ clock new → image new t b → image old (clock old) b
+abbrev pub StopsSame : Seen → Seen → Type 0
+StopsSame old new = (t : ℕ) (b : List (List ℕ)) → old.clock ≤ t → t ≤ new.clock → new.image t b → old.image old.clock b
 
 -- what a stop meanwhile may leave differs in one place from what a stop before could have left
-abbrev pub AddsAt : {D : Type 0} → ℕ → (D → ℕ) → (D → ℕ → List (List ℕ) → Type 0) → D → D → Type 0
-AddsAt at clock image old new = (t : ℕ) (b : List (List ℕ)) → clock old ≤ t → t ≤ clock new → image new t b
-    → (c : List (List ℕ)) × image old (clock old) c × SameBut at c b
+abbrev pub StopsBut : ℕ → Seen → Seen → Type 0
+StopsBut at old new = (t : ℕ) (b : List (List ℕ)) → old.clock ≤ t → t ≤ new.clock → new.image t b
+    → (c : List (List ℕ)) × old.image old.clock c × SameBut at c b
+
+-- the bytes that are whole meanwhile were whole before
+abbrev pub WholeSame : Seen → Seen → Type 0
+WholeSame old new = (t i : ℕ) (x : List ℕ) → old.clock ≤ t → t ≤ new.clock → new.whole t i x → old.whole old.clock i x
+
+-- the bytes that are whole meanwhile were whole before, or are this block in its place
+abbrev pub WholeBut : ℕ → List ℕ → Seen → Seen → Type 0
+WholeBut at block old new = (t i : ℕ) (x : List ℕ) → old.clock ≤ t → t ≤ new.clock → new.whole t i x
+    → old.whole old.clock i x ⊎ ((i ≡ at) × (x ≡ block))
 
 -- a call that changes something raises the clock, or fails and changes no block
-pub record Raises {D T E : Type 0} (result : Result T E) (blocks : D → Option (List (List ℕ))) (clock : D → ℕ) (old new : D) : Type 0 where
-  pub ok : OnOk result (clock old < clock new)
-  pub err : OnErr result ((clock old < clock new) ⊎ (blocks new ≡ blocks old))
+pub record Raises {T E : Type 0} (result : Result T E) (old new : Seen) : Type 0 where
+  pub ok : OnOk result (old.clock < new.clock)
+  pub err : OnErr result ((old.clock < new.clock) ⊎ (new.blocks ≡ old.blocks))
 
 -- a stop now leaves what a read gives, and nothing else
-abbrev pub IsSettled : {D : Type 0} → (D → Option (List (List ℕ))) → (D → ℕ) → (D → ℕ → List (List ℕ) → Type 0) → D → Type 0
-IsSettled blocks clock image now = (b : List (List ℕ)) → image now (clock now) b → blocks now ≡ Some b
+abbrev pub Settled : Seen → Type 0
+Settled now = (b : List (List ℕ)) → now.image now.clock b → now.blocks ≡ Some b
 
 -- a call of count
-pub record HasCounted {D E : Type 0} (blocks : D → Option (List (List ℕ))) (faults : D → ℕ) (tells : D → Bool) (clock : D → ℕ)
-    (image : D → ℕ → List (List ℕ) → Type 0) (result : Result ℕ E) (old new : D) : Type 0 where
-  pub content : Counted result (blocks old) (blocks new)
-  pub counts : CountsFaults result (faults old) (faults new)
-  pub past : KeepsPast tells clock image old new
-  pub since : AddsNone clock image old new
+pub record Counts {E : Type 0} (result : Result ℕ E) (old new : Seen) : Type 0 where
+  pub content : Counted result old.blocks new.blocks
+  pub counts : CountsFaults result old.faults new.faults
+  pub past : GoesOn old new
+  pub since : StopsSame old new
+  pub whole : WholeSame old new
 
 -- a call of read
-pub record HasRead {D T E : Type 0} (blocks : D → Option (List (List ℕ))) (faults : D → ℕ) (tells : D → Bool) (clock : D → ℕ)
-    (image : D → ℕ → List (List ℕ) → Type 0) (at : ℕ) (into : List ℕ) (result : Result T E) (old new : D) : Type 0 where
-  pub content : Fetched at into result (blocks old) (blocks new)
-  pub counts : CountsFaults result (faults old) (faults new)
-  pub past : KeepsPast tells clock image old new
-  pub since : AddsNone clock image old new
+pub record Reads {T E : Type 0} (at : ℕ) (into : List ℕ) (result : Result T E) (old new : Seen) : Type 0 where
+  pub content : Fetched at into result old.blocks new.blocks
+  pub counts : CountsFaults result old.faults new.faults
+  pub past : GoesOn old new
+  pub since : StopsSame old new
+  pub whole : WholeSame old new
 
 -- a call of write
-pub record HasWritten {D T E : Type 0} (blocks : D → Option (List (List ℕ))) (faults : D → ℕ) (tells : D → Bool) (clock : D → ℕ)
-    (image : D → ℕ → List (List ℕ) → Type 0) (at : ℕ) (block : List ℕ) (result : Result T E) (old new : D) : Type 0 where
-  pub content : Stored at block result (blocks old) (blocks new)
-  pub counts : CountsFaults result (faults old) (faults new)
-  pub past : KeepsPast tells clock image old new
-  pub since : AddsAt at clock image old new
-  pub raises : IsTrue (tells old) → Raises result blocks clock old new
+pub record Writes {T E : Type 0} (at : ℕ) (block : List ℕ) (result : Result T E) (old new : Seen) : Type 0 where
+  pub content : Stored at block result old.blocks new.blocks
+  pub counts : CountsFaults result old.faults new.faults
+  pub past : GoesOn old new
+  pub since : StopsBut at old new
+  pub whole : WholeBut at block old new
+  pub raises : IsTrue old.tells → Raises result old new
 
 -- a call of resize; nothing is said of what a stop within it leaves
-pub record HasResized {D T E : Type 0} (blocks : D → Option (List (List ℕ))) (faults : D → ℕ) (tells : D → Bool) (clock : D → ℕ)
-    (image : D → ℕ → List (List ℕ) → Type 0) (n : ℕ) (result : Result T E) (old new : D) : Type 0 where
-  pub content : Cut n result (blocks old) (blocks new)
-  pub counts : CountsFaults result (faults old) (faults new)
-  pub past : KeepsPast tells clock image old new
-  pub raises : IsTrue (tells old) → Raises result blocks clock old new
+pub record Resizes {T E : Type 0} (n : ℕ) (result : Result T E) (old new : Seen) : Type 0 where
+  pub content : Cut n result old.blocks new.blocks
+  pub counts : CountsFaults result old.faults new.faults
+  pub past : GoesOn old new
+  pub raises : IsTrue old.tells → Raises result old new
 
 -- a call of sync: at Ok nothing waits any more
-pub record HasSynced {D T E : Type 0} (blocks : D → Option (List (List ℕ))) (faults : D → ℕ) (tells : D → Bool) (clock : D → ℕ)
-    (image : D → ℕ → List (List ℕ) → Type 0) (result : Result T E) (old new : D) : Type 0 where
-  pub content : blocks new ≡ blocks old
-  pub counts : CountsFaults result (faults old) (faults new)
-  pub past : KeepsPast tells clock image old new
-  pub since : AddsNone clock image old new
-  pub settled : OnOk result (IsSettled blocks clock image new)
-  pub raises : IsTrue (tells old) → Raises result blocks clock old new
+pub record Syncs {T E : Type 0} (result : Result T E) (old new : Seen) : Type 0 where
+  pub content : new.blocks ≡ old.blocks
+  pub counts : CountsFaults result old.faults new.faults
+  pub past : GoesOn old new
+  pub since : StopsSame old new
+  pub whole : WholeSame old new
+  pub settled : OnOk result (Settled new)
+  pub raises : IsTrue old.tells → Raises result old new
+
+-- bytes that are whole in a block now are what a stop now may leave there
+abbrev pub WholeMayStay : Seen → Type 0
+WholeMayStay now = (all : List (List ℕ)) (i : ℕ) (x : List ℕ) → now.blocks ≡ Some all → i < length all → now.whole now.clock i x
+    → (b : List (List ℕ)) × now.image now.clock b × (block_of b i ≡ x)

@@ -2,6 +2,7 @@ pub mod Calls
 pub mod Picks
 pub mod Changes
 pub mod Devices
+pub mod DeviceCalls
 pub mod Records
 pub mod Faults
 pub mod Streams

@@ -1,5 +1,5 @@
 //! Which calls of a memory form fail.
-ghost use Rattle.std.specs.Prelude.{◌≡◌, [], ◌≤◌, is_err};
+ghost use Rattle.std.specs.Prelude.{◌≡◌, ◌≤◌, OnOk, is_err};
 ghost use Rattle.iq_outside.specs.Calls.{plan_of, is_listed, after_call, after_fault};
 
 use crate::Failed;
@@ -39,6 +39,7 @@ impl Calls {
     pub fn call(&mut self) -> Result<(), Failed>
         ensures listed { is_err result ≡ is_listed self.old }
         ensures counted { self.new ≡ after_call self.old }
+        ensures calm { OnOk result (self.new.faults ≡ self.old.faults) }
         ensures later { self.old.faults ≤ self.new.faults }
     {
         self.count = self.count.saturating_add(1);

@@ -1,6 +1,6 @@
 //! Where blocks are kept.
 ghost use Rattle.std.specs.Prelude.{◌≡◌, ◌<◌, ℕ, List, Option, Some, Bool, IsTrue, length};
-ghost use Rattle.iq_outside.specs.Devices.{HasCounted, HasRead, HasWritten, HasResized, HasSynced};
+ghost use Rattle.iq_outside.specs.Devices.{seen, Counts, Reads, Writes, Resizes, Syncs, WholeMayStay};
 
 use crate::Failed;
 
@@ -24,27 +24,36 @@ pub trait Device: Drop {
     /// What a stop at a moment up to the present one may have left.
     ghost image: { Self → ℕ → List (List ℕ) → Type 0 };
 
+    /// Which bytes were whole in a block at a moment up to the present one: those of the last sync that succeeded, and those of
+    /// each write since. A stop may leave these there, or parts of them.
+    ghost whole: { Self → ℕ → ℕ → List ℕ → Type 0 };
+
     /// How many blocks there are.
     fn count(&mut self) -> Result<u32, Failed>
-        ensures { HasCounted blocks faults tells clock image result self.old self.new };
+        ensures { Counts result (seen blocks faults tells clock image whole self.old)
+            (seen blocks faults tells clock image whole self.new) };
 
     /// Makes it so many blocks. New ones are filled with zeros, and those past the end are lost.
     fn resize(&mut self, count: u32) -> Result<(), Failed>
-        ensures { HasResized blocks faults tells clock image count result self.old self.new };
+        ensures { Resizes count result (seen blocks faults tells clock image whole self.old)
+            (seen blocks faults tells clock image whole self.new) };
 
     /// Reads a block, with a number from 0.
     fn read(&mut self, at: u32, into: &mut Block) -> Result<(), Failed>
         requires { (all : List (List ℕ)) → blocks self.old ≡ Some all → at < length all }
-        ensures { HasRead blocks faults tells clock image at into.new result self.old self.new };
+        ensures { Reads at into.new result (seen blocks faults tells clock image whole self.old)
+            (seen blocks faults tells clock image whole self.new) };
 
     /// Writes a block. Until a sync, a stop may leave any bytes there; so may a failed write.
     fn write(&mut self, at: u32, from: &Block) -> Result<(), Failed>
         requires { (all : List (List ℕ)) → blocks self.old ≡ Some all → at < length all }
-        ensures { HasWritten blocks faults tells clock image at from.now result self.old self.new };
+        ensures { Writes at from.now result (seen blocks faults tells clock image whole self.old)
+            (seen blocks faults tells clock image whole self.new) };
 
     /// After it succeeded, a stop leaves what was written before.
     fn sync(&mut self) -> Result<(), Failed>
-        ensures { HasSynced blocks faults tells clock image result self.old self.new };
+        ensures { Syncs result (seen blocks faults tells clock image whole self.old)
+            (seen blocks faults tells clock image whole self.new) };
 
     /// How many calls have failed.
     fn faults(&self) -> u64
@@ -57,4 +66,7 @@ pub trait Device: Drop {
     /// A stop may leave all as it is read now.
     ghost reads_now: { (device : Self) (all : List (List ℕ)) → IsTrue (tells device)
         → blocks device ≡ Some all → image device (clock device) all };
+
+    /// And it may leave any bytes that are whole in a block now.
+    ghost stays_whole: { (device : Self) → WholeMayStay (seen blocks faults tells clock image whole device) };
 }

@@ -17,13 +17,16 @@ const LONGEST: u64 = 1_073_741_824;
 
 /// The blocks of a file, each of 1,024 bytes at its place. The file is opened at the first call, and made where that call is
 /// `resize`. It tells nothing: whether the system keeps what was written is known to nobody. A length that is no multiple
-/// of 1,024, or is above 1,073,741,824 bytes, is a fault of `count`. Once a sync has failed, what was written may be lost
-/// with no further word from the system, so every later sync fails too.
+/// of 1,024, or is above 1,073,741,824 bytes, is a fault of `count`, which asks the system once and after a `resize` that
+/// failed or went above: nobody else may write the file meanwhile. A sync keeps the bytes and the length; the entry of a new
+/// file in its directory isn't synced. Once a sync has failed, what was written may be lost with no further word from the
+/// system, so every later sync fails too. Each other call is one call of the system, and takes no memory.
 #[derive(Drop)]
 pub struct FileDevice<R> {
     rt: R,
     path: String,
     file: Option<File>,
+    count: Option<u32>,
     lost: bool,
     faults: u64,
 }
@@ -35,6 +38,7 @@ impl<R: Files<File = File>> FileDevice<R> {
             rt,
             path,
             file: None,
+            count: None,
             lost: false,
             faults: 0,
         }
@@ -68,22 +72,33 @@ impl<R: Files<File = File>> FileDevice<R> {
     fn try_count(&mut self) -> io::Result<u32>
         ensures { self.new.faults ≡ self.old.faults }
     {
+        if let Some(count) = self.count {
+            return Ok(count);
+        }
         self.open(false)?;
         let length = length_of(&self.file)?;
         if length % BLOCK != 0 || length > LONGEST {
             return Err(io::ErrorKind::InvalidData.into());
         }
-        Ok((length / BLOCK) as u32)
+        let count = (length / BLOCK) as u32;
+        self.count = Some(count);
+        Ok(count)
     }
 
     fn try_resize(&mut self, count: u32) -> io::Result<()>
         ensures { self.new.faults ≡ self.old.faults }
     {
         self.open(true)?;
+        self.count = None;
+        let length = u64::from(count) * BLOCK;
         match &self.file {
-            Some(file) => file.set_len(u64::from(count) * BLOCK),
-            None => Err(io::ErrorKind::NotFound.into()),
+            Some(file) => file.set_len(length)?,
+            None => return Err(io::ErrorKind::NotFound.into()),
         }
+        if length <= LONGEST {
+            self.count = Some(count);
+        }
+        Ok(())
     }
 
     fn try_read(&mut self, at: u32, into: &mut Block) -> io::Result<()>
@@ -111,7 +126,7 @@ impl<R: Files<File = File>> FileDevice<R> {
     {
         self.open(false)?;
         let outcome = match &self.file {
-            Some(file) if !self.lost => file.sync_all(),
+            Some(file) if !self.lost => file.sync_data(),
             _ => Err(io::ErrorKind::Other.into()),
         };
         self.lost = outcome.is_err();
@@ -137,6 +152,8 @@ impl<R: Files<File = File> + Drop> Device for FileDevice<R> {
     ghost clock = { λ _. 0 };
 
     ghost image = { λ _ _ _. ⊥ };
+
+    ghost whole = { λ _ _ _ _. ⊥ };
 
     fn count(&mut self) -> Result<u32, Failed> {
         let outcome = self.try_count();
@@ -172,4 +189,6 @@ impl<R: Files<File = File> + Drop> Device for FileDevice<R> {
     }
 
     ghost reads_now = { Prim.search rules };
+
+    ghost stays_whole = { Prim.search rules };
 }

@@ -1,9 +1,9 @@
 //! Blocks in memory that stop after a number of calls.
 ghost use Rattle.std.specs.Prelude.{◌≡◌, ◌<◌, ◌≤◌, ◌-◌, ◌^◌, [], ℕ, ◌==◌, List, Some, length, vec_len, is_err, IsErr, OnErr, reverse};
 ghost use Rattle.iq_outside.specs.Faults.{HasRisen};
-ghost use Rattle.iq_outside.specs.Devices.{HasCounted, HasRead, HasWritten, HasResized, HasSynced};
-ghost use Rattle.iq_outside.specs.Records.{fused_blocks, fused_faults, fused_tells, fused_clock, fused_image};
-ghost use Rattle.iq_outside.specs.Changes.{image_told, stopped};
+ghost use Rattle.iq_outside.specs.Devices.{Counts, Reads, Writes, Resizes, Syncs};
+ghost use Rattle.iq_outside.specs.Records.{fused_seen};
+ghost use Rattle.iq_outside.specs.Changes.{image_told, whole_told, stopped};
 
 use crate::recorded::Recorded;
 use crate::{Block, Device, Failed, Pick, SureDevice};
@@ -51,7 +51,7 @@ impl FuseDevice {
     /// The device as a stop leaves it: a pick of each block that was written since the last sync that succeeded. It takes no
     /// memory.
     pub fn crash(self, pick: Pick) -> SureDevice
-        ensures image { fused_image self (fused_clock self) result.blocks }
+        ensures image { (fused_seen self).image (fused_seen self).clock result.blocks }
         ensures left { result.blocks ≡ stopped pick (reverse self.kept.changes) self.kept.blocks }
         ensures fresh { result.faults ≡ 0 }
     {
@@ -95,19 +95,20 @@ fn counted(outcome: Result<(), AllocError>, faults: &mut u64) -> Result<(), Fail
 }
 
 impl Device for FuseDevice {
-    ghost blocks = { fused_blocks };
+    ghost blocks = { λ d. (fused_seen d).blocks };
 
-    ghost faults = { fused_faults };
+    ghost faults = { λ d. (fused_seen d).faults };
 
-    ghost tells = { fused_tells };
+    ghost tells = { λ d. (fused_seen d).tells };
 
-    ghost clock = { fused_clock };
+    ghost clock = { λ d. (fused_seen d).clock };
 
-    ghost image = { fused_image };
+    ghost image = { λ d. (fused_seen d).image };
+
+    ghost whole = { λ d. (fused_seen d).whole };
 
     fn count(&mut self) -> Result<u32, Failed>
-        ensures counted { HasCounted fused_blocks fused_faults fused_tells fused_clock fused_image
-            result self.old self.new }
+        ensures counted { Counts result (fused_seen self.old) (fused_seen self.new) }
         ensures blown { is_err result ≡ (self.old.passes == 0) }
     {
         pass(&mut self.passes, &mut self.faults)?;
@@ -115,8 +116,7 @@ impl Device for FuseDevice {
     }
 
     fn resize(&mut self, count: u32) -> Result<(), Failed>
-        ensures resized { HasResized fused_blocks fused_faults fused_tells fused_clock fused_image
-            count result self.old self.new }
+        ensures resized { Resizes count result (fused_seen self.old) (fused_seen self.new) }
         ensures blown { self.old.passes ≡ 0 → IsErr result }
     {
         pass(&mut self.passes, &mut self.faults)?;
@@ -124,9 +124,8 @@ impl Device for FuseDevice {
     }
 
     fn read(&mut self, at: u32, into: &mut Block) -> Result<(), Failed>
-        requires { (all : List (List ℕ)) → fused_blocks self.old ≡ Some all → at < length all }
-        ensures read { HasRead fused_blocks fused_faults fused_tells fused_clock fused_image
-            at into.new result self.old self.new }
+        requires { (all : List (List ℕ)) → (fused_seen self.old).blocks ≡ Some all → at < length all }
+        ensures read { Reads at into.new result (fused_seen self.old) (fused_seen self.new) }
         ensures blown { is_err result ≡ (self.old.passes == 0) }
     {
         pass(&mut self.passes, &mut self.faults)?;
@@ -135,9 +134,8 @@ impl Device for FuseDevice {
     }
 
     fn write(&mut self, at: u32, from: &Block) -> Result<(), Failed>
-        requires { (all : List (List ℕ)) → fused_blocks self.old ≡ Some all → at < length all }
-        ensures written { HasWritten fused_blocks fused_faults fused_tells fused_clock fused_image
-            at from.now result self.old self.new }
+        requires { (all : List (List ℕ)) → (fused_seen self.old).blocks ≡ Some all → at < length all }
+        ensures written { Writes at from.now result (fused_seen self.old) (fused_seen self.new) }
         ensures blown { self.old.passes ≡ 0 → IsErr result }
     {
         pass(&mut self.passes, &mut self.faults)?;
@@ -145,8 +143,7 @@ impl Device for FuseDevice {
     }
 
     fn sync(&mut self) -> Result<(), Failed>
-        ensures synced { HasSynced fused_blocks fused_faults fused_tells fused_clock fused_image
-            result self.old self.new }
+        ensures synced { Syncs result (fused_seen self.old) (fused_seen self.new) }
         ensures blown { self.old.passes ≡ 0 → IsErr result }
     {
         pass(&mut self.passes, &mut self.faults)?;
@@ -162,4 +159,6 @@ impl Device for FuseDevice {
     }
 
     ghost reads_now = { λ device all tells told. image_told device.kept all told };
+
+    ghost stays_whole = { λ device. whole_told device.faults device.kept };
 }

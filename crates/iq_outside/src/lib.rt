@@ -25,6 +25,7 @@ mod sure_device;
 mod tests;
 mod writing;
 
+pub use calls::Calls;
 pub use device::{Block, Device};
 pub use failed::Failed;
 pub use file_device::FileDevice;

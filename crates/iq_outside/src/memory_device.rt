@@ -1,9 +1,9 @@
 //! Blocks in memory that fail where they are told to, and tell what a stop may leave.
 ghost use Rattle.std.specs.Prelude.{◌≡◌, ◌<◌, ◌^◌, [], ℕ, List, Some, length, vec_len, ◌≤◌, is_err, IsTrue, IsErr, OnOk, OnErr};
 ghost use Rattle.iq_outside.specs.Calls.{plan_of, is_listed, after_fault};
-ghost use Rattle.iq_outside.specs.Devices.{HasCounted, HasRead, HasWritten, HasResized, HasSynced};
-ghost use Rattle.iq_outside.specs.Records.{taped_blocks, taped_faults, taped_tells, taped_clock, taped_image};
-ghost use Rattle.iq_outside.specs.Changes.{image_told};
+ghost use Rattle.iq_outside.specs.Devices.{Counts, Reads, Writes, Resizes, Syncs};
+ghost use Rattle.iq_outside.specs.Records.{taped_seen};
+ghost use Rattle.iq_outside.specs.Changes.{image_told, whole_told};
 
 use crate::calls::Calls;
 use crate::recorded::Recorded;
@@ -62,19 +62,20 @@ fn counted(outcome: Result<(), AllocError>, calls: &mut Calls) -> Result<(), Fai
 }
 
 impl Device for MemoryDevice {
-    ghost blocks = { taped_blocks };
+    ghost blocks = { λ d. (taped_seen d).blocks };
 
-    ghost faults = { taped_faults };
+    ghost faults = { λ d. (taped_seen d).faults };
 
-    ghost tells = { taped_tells };
+    ghost tells = { λ d. (taped_seen d).tells };
 
-    ghost clock = { taped_clock };
+    ghost clock = { λ d. (taped_seen d).clock };
 
-    ghost image = { taped_image };
+    ghost image = { λ d. (taped_seen d).image };
+
+    ghost whole = { λ d. (taped_seen d).whole };
 
     fn count(&mut self) -> Result<u32, Failed>
-        ensures counted { HasCounted taped_blocks taped_faults taped_tells taped_clock taped_image
-            result self.old self.new }
+        ensures counted { Counts result (taped_seen self.old) (taped_seen self.new) }
         ensures listed { is_err result ≡ is_listed self.old.plan }
     {
         self.calls.call()?;
@@ -82,8 +83,7 @@ impl Device for MemoryDevice {
     }
 
     fn resize(&mut self, count: u32) -> Result<(), Failed>
-        ensures resized { HasResized taped_blocks taped_faults taped_tells taped_clock taped_image
-            count result self.old self.new }
+        ensures resized { Resizes count result (taped_seen self.old) (taped_seen self.new) }
         ensures listed { IsTrue (is_listed self.old.plan) → IsErr result }
     {
         self.calls.call()?;
@@ -91,9 +91,8 @@ impl Device for MemoryDevice {
     }
 
     fn read(&mut self, at: u32, into: &mut Block) -> Result<(), Failed>
-        requires { (all : List (List ℕ)) → taped_blocks self.old ≡ Some all → at < length all }
-        ensures read { HasRead taped_blocks taped_faults taped_tells taped_clock taped_image
-            at into.new result self.old self.new }
+        requires { (all : List (List ℕ)) → (taped_seen self.old).blocks ≡ Some all → at < length all }
+        ensures read { Reads at into.new result (taped_seen self.old) (taped_seen self.new) }
         ensures listed { is_err result ≡ is_listed self.old.plan }
     {
         self.calls.call()?;
@@ -102,9 +101,8 @@ impl Device for MemoryDevice {
     }
 
     fn write(&mut self, at: u32, from: &Block) -> Result<(), Failed>
-        requires { (all : List (List ℕ)) → taped_blocks self.old ≡ Some all → at < length all }
-        ensures written { HasWritten taped_blocks taped_faults taped_tells taped_clock taped_image
-            at from.now result self.old self.new }
+        requires { (all : List (List ℕ)) → (taped_seen self.old).blocks ≡ Some all → at < length all }
+        ensures written { Writes at from.now result (taped_seen self.old) (taped_seen self.new) }
         ensures listed { IsTrue (is_listed self.old.plan) → IsErr result }
     {
         self.calls.call()?;
@@ -112,8 +110,7 @@ impl Device for MemoryDevice {
     }
 
     fn sync(&mut self) -> Result<(), Failed>
-        ensures synced { HasSynced taped_blocks taped_faults taped_tells taped_clock taped_image
-            result self.old self.new }
+        ensures synced { Syncs result (taped_seen self.old) (taped_seen self.new) }
         ensures listed { IsTrue (is_listed self.old.plan) → IsErr result }
     {
         self.calls.call()?;
@@ -129,4 +126,6 @@ impl Device for MemoryDevice {
     }
 
     ghost reads_now = { λ device all tells told. image_told device.kept all told };
+
+    ghost stays_whole = { λ device. whole_told device.plan.faults device.kept };
 }

@@ -1,7 +1,7 @@
 //! Sinks that keep bytes in memory.
-ghost use Rattle.std.specs.Prelude.{◌≡◌, ◌<◌, [], Some, length, min, IsTrue, IsErr, IfOk, OnOk};
+ghost use Rattle.std.specs.Prelude.{◌≡◌, ◌<◌, [], Some, length, min, IsTrue, IsErr, IfOk, OnErr};
 ghost use Rattle.iq_outside.specs.Streams.{WritesFront};
-ghost use Rattle.iq_outside.specs.Calls.{plan_of, is_listed, after_call};
+ghost use Rattle.iq_outside.specs.Calls.{plan_of, is_listed, next_of, plan_after};
 
 use crate::calls::Calls;
 use crate::{Failed, Sink};
@@ -64,7 +64,8 @@ impl Sink for MemorySink {
         ensures front { WritesFront result from.now
             (Some self.old.written) (Some self.new.written) self.old.plan.faults self.new.plan.faults }
         ensures listed { IsTrue (is_listed self.old.plan) → IsErr result }
-        ensures counted { OnOk result (self.new.plan ≡ after_call self.old.plan) }
+        ensures counted { self.new.plan ≡ plan_after result self.old.plan }
+        ensures same_most { self.new.most ≡ self.old.most }
         ensures full { IfOk result (λ n. n ≡ min (length from.now) self.old.most) }
     {
         self.calls.call()?;
@@ -125,6 +126,7 @@ impl Sink for SureSink {
     fn write(&mut self, from: &[u8]) -> Result<usize, Failed>
         ensures front { WritesFront result from.now
             (Some self.old.written) (Some self.new.written) self.old.faults self.new.faults }
+        ensures counted { OnErr result (self.new.faults ≡ next_of self.old.faults) }
         ensures full { IfOk result (λ n. n ≡ length from.now) }
     {
         match self.bytes.extend_from_slice(from) {

@@ -1,9 +1,10 @@
 //! Reading a whole source.
-ghost use Rattle.std.specs.Prelude.{◌≡◌, ◌<◌, ◌≤◌, length, take, vec_len, IfOk, OnOk, OnErr, IfErr, IsErrOf};
+ghost use Rattle.std.specs.Prelude.{◌≡◌, ◌<◌, ◌≤◌, Some, length, take, vec_len, IfOk, OnOk, OnErr, IfErr, IsErrOf};
+ghost use Rattle.std.specs.Io.KnownBytes.{Keeps, IsAtEnd};
 ghost use Rattle.iq_outside.specs.declared.reading.ReadFault.TheVariants.{NoMemory, TooLong};
 ghost use Rattle.iq_outside.specs.Faults.{RoseWithin};
-ghost use Rattle.iq_outside.specs.Streams.{Takes, IsAtEnd};
-ghost use Rattle.iq_outside.specs.Whole.{CameBefore, HasCause, IsAllOf, IsLongerThan};
+ghost use Rattle.iq_outside.specs.Streams.{Takes};
+ghost use Rattle.iq_outside.specs.Whole.{CameBefore, HasCause, IsAllOf, IsLongerThan, read_fault_text};
 
 use crate::Source;
 use std::alloc::{AllocError, Global};
@@ -33,6 +34,8 @@ impl From<AllocError> for ReadFault {
 }
 
 impl fmt::Display for ReadFault {
+    ghost output = { λ e. Some (read_fault_text e) };
+
     fn fmt<W: fmt::Write>(&self, f: &mut fmt::Formatter<W>) -> fmt::Result {
         match self {
             ReadFault::Fault { before, after } => write!(f, "a read failed: {before} to {after}"),
@@ -44,8 +47,8 @@ impl fmt::Display for ReadFault {
 
 impl Error for ReadFault {}
 
-/// Reads a source to its end, or until more than `most` bytes came; then it reads no further. It takes a buffer of 65,536
-/// bytes beside the answer.
+/// Reads a source to its end, or until `most + 1` bytes came: it asks for no byte behind these, and makes no call after one
+/// that failed. It takes a buffer of 65,536 bytes beside the answer, and asks for so many at a read.
 pub fn read_whole<I: Source>(
     alloc: Global,
     source: &mut I,
@@ -56,6 +59,7 @@ pub fn read_whole<I: Source>(
     ensures at_end { OnOk result (IsAtEnd (I.left source.new)) }
     ensures all { IfOk result (λ v. IsAllOf v.items (I.left source.old)) }
     ensures short { IfOk result (λ v. vec_len v ≤ most) }
+    ensures calm { OnOk result (I.faults source.new ≡ I.faults source.old) }
 
     // An error has its cause.
     ensures came { IfErr result (λ e. CameBefore e most (I.left source.old) (I.left source.new)) }
@@ -66,10 +70,13 @@ pub fn read_whole<I: Source>(
     let mut piece = buffer(alloc, PIECE)?;
     let mut whole = Vec::new(alloc);
     'reading: loop {
+        let room = most - whole.len();
+        // One byte past the most shows that there are more, and none behind it is asked for.
+        piece.truncate(room.saturating_add(1));
         match read_piece(source, &mut piece) {
             Err((before, after)) => return Err(ReadFault::Fault { before, after }),
             Ok(0) => return Ok(whole),
-            Ok(n) if n > most - whole.len() => return Err(ReadFault::TooLong),
+            Ok(n) if n > room => return Err(ReadFault::TooLong),
             Ok(n) => whole.extend_from_slice(piece.split_at(n).0)?,
         }
     }
@@ -89,7 +96,8 @@ fn read_piece<I: Source>(source: &mut I, piece: &mut [u8]) -> Result<usize, (u64
         Takes (take n piece.new) (I.left source.old) (I.left source.new)) }
     ensures ends { IfOk result (λ n.
         0 < length piece.old → n ≡ 0 → IsAtEnd (I.left source.new)) }
-    ensures unchanged { OnErr result (I.left source.new ≡ I.left source.old) }
+    ensures unchanged { OnErr result (Keeps (I.left source.old) (I.left source.new)) }
+    ensures calm { OnOk result (I.faults source.new ≡ I.faults source.old) }
     ensures cause { IfErr result (λ e.
         RoseWithin (I.faults source.old) e.0 e.1 (I.faults source.new)) }
     ensures later { I.faults source.old ≤ I.faults source.new }

@@ -1,7 +1,7 @@
 //! Blocks in memory.
 ghost use Rattle.std.specs.Prelude.{◌≡◌, ◌<◌, ◌^◌, ℕ, List, Some, length, vec_len, IsOk};
-ghost use Rattle.iq_outside.specs.Devices.{HasCounted, HasRead, HasWritten, HasSynced};
-ghost use Rattle.iq_outside.specs.Records.{held_blocks, held_faults, held_tells, held_clock, held_image};
+ghost use Rattle.iq_outside.specs.Devices.{Counts, Reads, Writes, Syncs};
+ghost use Rattle.iq_outside.specs.Records.{held_seen};
 ghost use Rattle.std.proofs.Common.{rules};
 
 use crate::{Block, Device, Failed};
@@ -43,19 +43,20 @@ impl SureDevice {
 }
 
 impl Device for SureDevice {
-    ghost blocks = { held_blocks };
+    ghost blocks = { λ d. (held_seen d).blocks };
 
-    ghost faults = { held_faults };
+    ghost faults = { λ d. (held_seen d).faults };
 
-    ghost tells = { held_tells };
+    ghost tells = { λ d. (held_seen d).tells };
 
-    ghost clock = { held_clock };
+    ghost clock = { λ d. (held_seen d).clock };
 
-    ghost image = { held_image };
+    ghost image = { λ d. (held_seen d).image };
+
+    ghost whole = { λ d. (held_seen d).whole };
 
     fn count(&mut self) -> Result<u32, Failed>
-        ensures counted { HasCounted held_blocks held_faults held_tells held_clock held_image
-            result self.old self.new }
+        ensures counted { Counts result (held_seen self.old) (held_seen self.new) }
         ensures sure { IsOk result }
     {
         Ok(self.blocks.len() as u32)
@@ -73,9 +74,8 @@ impl Device for SureDevice {
     }
 
     fn read(&mut self, at: u32, into: &mut Block) -> Result<(), Failed>
-        requires { (all : List (List ℕ)) → held_blocks self.old ≡ Some all → at < length all }
-        ensures read { HasRead held_blocks held_faults held_tells held_clock held_image
-            at into.new result self.old self.new }
+        requires { (all : List (List ℕ)) → (held_seen self.old).blocks ≡ Some all → at < length all }
+        ensures read { Reads at into.new result (held_seen self.old) (held_seen self.new) }
         ensures sure { IsOk result }
     {
         *into = self.blocks[at as usize];
@@ -83,9 +83,8 @@ impl Device for SureDevice {
     }
 
     fn write(&mut self, at: u32, from: &Block) -> Result<(), Failed>
-        requires { (all : List (List ℕ)) → held_blocks self.old ≡ Some all → at < length all }
-        ensures written { HasWritten held_blocks held_faults held_tells held_clock held_image
-            at from.now result self.old self.new }
+        requires { (all : List (List ℕ)) → (held_seen self.old).blocks ≡ Some all → at < length all }
+        ensures written { Writes at from.now result (held_seen self.old) (held_seen self.new) }
         ensures sure { IsOk result }
     {
         self.blocks[at as usize] = *from;
@@ -93,8 +92,7 @@ impl Device for SureDevice {
     }
 
     fn sync(&mut self) -> Result<(), Failed>
-        ensures synced { HasSynced held_blocks held_faults held_tells held_clock held_image
-            result self.old self.new }
+        ensures synced { Syncs result (held_seen self.old) (held_seen self.new) }
         ensures sure { IsOk result }
     {
         Ok(())
@@ -109,4 +107,6 @@ impl Device for SureDevice {
     }
 
     ghost reads_now = { Prim.search rules };
+
+    ghost stays_whole = { Prim.search rules };
 }

@@ -1,3 +1,2 @@
-//! What no clause says: that calls succeed where memory is ample, and what standard streams and files hand on.
+//! What no clause says: that calls succeed where memory is ample, and what files hand on.
 mod devices;
-mod streams;

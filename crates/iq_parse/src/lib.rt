@@ -17,6 +17,3 @@ mod words;
 
 pub use faults::ParseFault;
 pub use texts::{one_statement, parse};
-
-#[cfg(test)]
-mod tests;

@@ -2,7 +2,7 @@
 use Rattle.std.proofs.Common.{◌≡◌, Bool, true, false, List, [], ◌∷◌, Option, Some, None, is_some, refl, sym, ◌∙◌, ap, subst}
 use Rattle.std.specs.Option.{option_or}
 use Rattle.std.proofs.lemmas.Bool.{true≢false}
-use Rattle.iq_base.specs.declared.names.Name.{Name}
+use Rattle.iq_base.specs.Shorts.{Name}
 use Rattle.iq_base.specs.declared.values.Value.{Value}
 use Rattle.iq_base.specs.declared.refusals.Refusal.{Refusal}
 use Rattle.iq_base.specs.Locks.{catalog_name}
@@ -57,4 +57,9 @@ commits-built (writes.Insert name rows) db built =
           let there = some_table name (table_of name db) rows granted in
           subst (λ (o : Option Table). committed (record { seen = inserted o rows db; held = name ∷ []; created = [] }) db ≡ inserted o rows db) (sym there.1) (committed-inserted name (with_rows there.0 rows) there.0 db (not_catalog name built.0.free) (name-table_of name there.0 db there.1) there.1);
     }
-commits-built _ db built = absurd built
+commits-built (writes.DropTable name) db built = absurd built
+commits-built (writes.CreateIndex name kind table column second) db built = absurd built
+commits-built (writes.DropIndex table name) db built = absurd built
+commits-built (writes.Load table rows text) db built = absurd built
+commits-built (writes.Delete table cond) db built = absurd built
+commits-built (writes.Update table changes cond) db built = absurd built

@@ -3,11 +3,11 @@ use Rattle.std.proofs.Math.Seq.{drop-cons}
 use Rattle.std.proofs.Common.{◌≡◌, ℕ, ◌+◌, ◌<◌, length, get_or, drop, add-one, List, [], ◌∷◌, ◌++◌, Option, Some, None, map, filter, if◌then◌else◌, refl, sym, ◌∙◌, ap, subst, arith}
 use Rattle.std.specs.List.{AllByRecursion}
 use Rattle.std.specs.Option.{option_or}
-use Rattle.iq_base.specs.declared.names.Name.{Name}
+use Rattle.iq_base.specs.Shorts.{Name}
 use Rattle.iq_base.specs.declared.nodes.NodeSpec.{NodeSpec}
 use Rattle.iq_base.specs.declared.nodes.SessionSpec.{SessionSpec}
 use Rattle.iq_base.specs.declared.refusals.Refusal.{Refusal}
-use Rattle.iq_base.specs.declared.answers.Answer.TheVariants as answers
+use Rattle.iq_model.specs.declared.answers.Answer.TheVariants as answers
 use Rattle.iq_ast.specs.declared.statements.Statement.{Statement}
 use Rattle.iq_ast.specs.declared.statements.Statement.TheVariants as statements
 use Rattle.iq_ast.specs.declared.statements.Select.{Select}
@@ -25,6 +25,7 @@ use Rattle.iq_model.specs.Tables.{Database}
 use Rattle.iq_model.specs.Statements.{first_refusal, statement_checks, room_checks, names_of, created_by, effect, answer}
 use Rattle.iq_model.specs.State.{begun, locked, Run, Written, State, first_locked, first_later, not_held, lock_checks, committed, written_at, is_of, start}
 use Rattle.iq_model.specs.History.{DeedIs, NoneLeft, IsWhole, IsOnTables, checks_to_lock, checks_of, begin_work, begin_run, takes_effect, replay, write_said, replies}
+use Rattle.iq_plain.specs.Plain.{HadMemory}
 use Rattle.iq_plain.specs.OneSession.{one, between, NoneLater, IsBetween, LeadsTo, RunsLine, RefusesAtOnce}
 use Rattle.iq_model.proofs.Replay.{replay-append, IsLegal-append, replies-append}
 use Rattle.iq_plain.proofs.LineSteps.{first_refusal-append, not_held-one, leads-nil, line_of, within, by_begin, by_lock, by_done, by_refused, by_end, by_commit}
@@ -120,6 +121,11 @@ runs-answered line select c db deed granted =
 
 -- LINES AFTER ONE ANOTHER
 
+-- what holds of the entries of two histories
+all-append : (P : Entry → Type 0) (es es' : List Entry) → AllByRecursion P es → AllByRecursion P es' → AllByRecursion P (es ++ es')
+all-append P [] es' all more = more
+all-append P (e ∷ es) es' all more = (all.0, all-append P es es' all.1 more)
+
 -- a history with more entries
 pub leads-append : (s : State) (es es' : List Entry) (rs rs' : List Reply) (c c' : ℕ) (db db' : Database) (lines lines' : List Line) → LeadsTo s es rs c db lines → LeadsTo (replay s es) es' rs' c' db' lines' → LeadsTo s (es ++ es') (rs ++ rs') c' db' lines'
 leads-append s es es' rs rs' c c' db db' lines lines' first next =
@@ -129,6 +135,7 @@ leads-append s es es' rs rs' c c' db db' lines lines' first next =
           replies-append s es es'
           ∙ ap (λ (q : List Reply). q ++ replies (replay s es) es') first.gives
           ∙ ap (λ (q : List Reply). rs ++ q) next.gives;
+      memory = all-append HadMemory es es' first.memory next.memory;
       leaves = subst (IsBetween c' db' lines') (sym (replay-append s es es')) next.leaves;
     }
 

@@ -3,7 +3,7 @@ use Rattle.std.proofs.Common.{◌≡◌, ◌≢◌, inr, ℕ, ◌+◌, ◌≤◌
 use Rattle.std.specs.List.{slice_get}
 use Rattle.std.specs.Option.{option_or}
 use Rattle.std.proofs.lemmas.Bool.{eq-eqb, le-ltb}
-use Rattle.iq_base.specs.declared.names.Name.{Name}
+use Rattle.iq_base.specs.Shorts.{Name}
 use Rattle.iq_base.specs.declared.refusals.Refusal.{Refusal}
 use Rattle.iq_base.specs.declared.refusals.Refusal.TheVariants as refusals
 use Rattle.iq_ast.specs.declared.statements.Statement.{Statement}
@@ -18,7 +18,9 @@ use Rattle.iq_model.specs.Statements.{Check, first_refusal, statement_checks}
 use Rattle.iq_model.specs.State.{Stage, begun, locked, done, Run, running, Desk, Written, State, commit_of, latest_of, first_locked, first_later, not_held, locks, lock_checks, committed, written_at}
 use Rattle.iq_model.specs.History.{IsOnTables, IsOpen, checks_to_lock, checks_of, CanTake, IsPossible, begin_work, begin_run, takes_effect, change, replay, IsLegal, statement_said, entry_replies, replies}
 use Rattle.iq_plain.specs.OneSession.{one, between, NoneLater, IsBetween, LeadsTo}
+use Rattle.iq_plain.specs.Plain.{HadMemory}
 use Rattle.iq_plain.proofs.Committed.{same_name-refl}
+use Rattle.iq_plain.proofs.Memory.{had_memory}
 
 -- TESTS
 
@@ -67,17 +69,18 @@ not_held-one name =
 
 -- nothing left to do
 pub leads-nil : (s : State) (c : ℕ) (db : Database) (lines : List Line) → IsBetween c db lines s → LeadsTo s [] [] c db lines
-leads-nil s c db lines at = record { legal = tt; gives = refl; leaves = at }
+leads-nil s c db lines at = record { legal = tt; gives = refl; memory = tt; leaves = at }
 
 -- one entry, and then the others
-pub leads-cons : (s s' : State) (e : Entry) (es : List Entry) (rs rs' : List Reply) (c : ℕ) (db : Database) (lines : List Line) → IsPossible s e → change s e ≡ s' → entry_replies s e ≡ rs → LeadsTo s' es rs' c db lines → LeadsTo s (e ∷ es) (rs ++ rs') c db lines
-leads-cons s s' e es rs rs' c db lines possible changed reply next =
+pub leads-cons : (s s' : State) (e : Entry) (es : List Entry) (rs rs' : List Reply) (c : ℕ) (db : Database) (lines : List Line) → IsPossible s e → HadMemory e → change s e ≡ s' → entry_replies s e ≡ rs → LeadsTo s' es rs' c db lines → LeadsTo s (e ∷ es) (rs ++ rs') c db lines
+leads-cons s s' e es rs rs' c db lines possible had changed reply next =
     record {
       legal = (possible, subst (λ (t : State). IsLegal t es) (sym changed) next.legal);
       gives =
           ap (λ (q : List Reply). q ++ replies (change s e) es) reply
           ∙ ap (λ (t : State). rs ++ replies t es) changed
           ∙ ap (λ (q : List Reply). rs ++ q) next.gives;
+      memory = (had, next.memory);
       leaves = subst (λ (t : State). IsBetween c db lines (replay t es)) (sym changed) next.leaves;
     }
 
@@ -99,12 +102,12 @@ module _ (n : ℕ) (session : Option ℕ) (statement : Statement) (rest : List L
   -- a statement on tables begins a transaction
   pub by_begin : IsOnTables statement → LeadsTo (at (within (begin_run c db) begun lines)) es rs c' db' rest → LeadsTo (at (between lines)) (entries.Begin 0 n c ∷ es) rs c' db' rest
   by_begin on next =
-      leads-cons _ _ _ _ [] rs _ _ _ (refl, record { tables = on; stage = refl; none = refl; snapshot = refl }) (ap (λ (b : Bool). at (within (begin_run c (if b then db else unwrap_or (slice_get older c) [])) begun lines)) (eq-eqb c c refl)) refl next
+      leads-cons _ _ _ _ [] rs _ _ _ (refl, record { tables = on; stage = refl; none = refl; snapshot = refl }) tt (ap (λ (b : Bool). at (within (begin_run c (if b then db else unwrap_or (slice_get older c) [])) begun lines)) (eq-eqb c c refl)) refl next
 
   -- a transaction locks the names of its statement, which nothing refuses
   pub by_lock : (name : Name) → locks statement ≡ name ∷ [] → first_refusal (statement_checks statement db) ≡ None → NoneLater c wrote → LeadsTo (at (within (record { snapshot = c; start = begin_work db; now = record { seen = db; held = name ∷ []; created = [] } }) locked lines)) es rs c' db' rest → LeadsTo (at (within (begin_run c db) begun lines)) (entries.Lock 0 n (name ∷ []) ∷ es) rs c' db' rest
   by_lock name are granted none_later next =
-      leads-cons _ _ _ _ [] rs _ _ _ (refl, (refl, record { names_are = sym (not_held-nil (locks statement) ∙ are); some = λ e. cc; granted = to_lock })) refl refl next
+      leads-cons _ _ _ _ [] rs _ _ _ (refl, (refl, record { names_are = sym (not_held-nil (locks statement) ∙ are); some = λ e. cc; granted = to_lock })) tt refl refl next
     where
       to_lock : first_refusal (checks_to_lock (at (within (begin_run c db) begun lines)) 0 (begin_run c db) statement) ≡ None
       to_lock =
@@ -115,19 +118,19 @@ module _ (n : ℕ) (session : Option ℕ) (statement : Statement) (rest : List L
 
   -- a statement that nothing refuses takes effect
   pub by_done : (run : Run) (stage : Stage) → IsOpen stage → CanTake statement run → LeadsTo (at (within (record run { now = takes_effect statement run.now }) done lines)) es rs c' db' rest → LeadsTo (at (within run stage lines)) (entries.Done 0 n ∷ es) rs c' db' rest
-  by_done run stage open_stage can next = leads-cons _ _ _ _ [] rs _ _ _ (refl, (open_stage, can)) refl refl next
+  by_done run stage open_stage can next = leads-cons _ _ _ _ [] rs _ _ _ (refl, (open_stage, can)) tt refl refl next
 
   -- a refused line of its own transaction ends it
   pub by_refused : (run : Run) (stage : Stage) (cause : Refusal) → IsOpen stage → first_refusal (checks_of (at (within run stage lines)) 0 run statement) ≡ Some cause → LeadsTo (at (between rest)) es rs c' db' rest → LeadsTo (at (within run stage lines)) (entries.Refused (Some 0) n cause ∷ es) (record { line = n; said = said.Refused cause } ∷ rs) c' db' rest
   by_refused run stage cause open_stage found next =
-      leads-cons _ _ _ _ (record { line = n; said = said.Refused cause } ∷ []) rs _ _ _ (refl, inr (open_stage, inr found)) refl refl next
+      leads-cons _ _ _ _ (record { line = n; said = said.Refused cause } ∷ []) rs _ _ _ (refl, inr (open_stage, inr found)) (had_memory (at (within run stage lines)) 0 run statement cause found) refl refl next
 
   -- a transaction that holds no name ends
   pub by_end : (run : Run) → run.now.held ≡ [] → LeadsTo (at (between rest)) es rs c' db' rest → LeadsTo (at (within run done lines)) (entries.End 0 n ∷ es) (record { line = n; said = statement_said statement None run.now.seen } ∷ rs) c' db' rest
   by_end run held next =
-      leads-cons _ _ _ _ (record { line = n; said = statement_said statement None run.now.seen } ∷ []) rs _ _ _ (refl, (refl, held)) refl refl next
+      leads-cons _ _ _ _ (record { line = n; said = statement_said statement None run.now.seen } ∷ []) rs _ _ _ (refl, (refl, held)) tt refl refl next
 
   -- a transaction that holds a name commits
   pub by_commit : (run : Run) → run.now.held ≢ [] → LeadsTo (one (c + 1) (committed run.now db) (older ++ db ∷ []) (map (written_at (c + 1)) (run.now.held ++ run.now.created) ++ wrote) (c + 1) (between rest)) es rs c' db' rest → LeadsTo (at (within run done lines)) (entries.Commit 0 n (c + 1) ∷ es) (record { line = n; said = statement_said statement (Some (c + 1)) run.now.seen } ∷ rs) c' db' rest
   by_commit run held next =
-      leads-cons _ _ _ _ (record { line = n; said = statement_said statement (Some (c + 1)) run.now.seen } ∷ []) rs _ _ _ (refl, (refl, refl, held)) refl refl next
+      leads-cons _ _ _ _ (record { line = n; said = statement_said statement (Some (c + 1)) run.now.seen } ∷ []) rs _ _ _ (refl, (refl, refl, held)) tt refl refl next

@@ -1,5 +1,6 @@
 -- The state of a script of one session on one node, between two of its lines.
 use Rattle.std.specs.Prelude.{◌≡◌, ℕ, ◌≤◌, List, [], ◌∷◌, Some}
+use Rattle.std.specs.List.{AllByRecursion}
 use Rattle.iq_base.specs.declared.nodes.NodeKind.TheVariants as node_kinds
 use Rattle.iq_base.specs.declared.refusals.Refusal.{Refusal}
 use Rattle.iq_ast.specs.declared.statements.Statement.{Statement}
@@ -11,6 +12,7 @@ use Rattle.iq_model.specs.Tables.{Database}
 use Rattle.iq_model.specs.Statements.{first_refusal, statement_checks}
 use Rattle.iq_model.specs.State.{fresh, idle, Desk, NodeState, Written, State}
 use Rattle.iq_model.specs.History.{IsOnTables, IsLegal, replay, replies}
+use Rattle.iq_plain.specs.Plain.{HadMemory}
 
 -- the coordinator
 abbrev pub coordinator : ℕ → NodeState
@@ -45,10 +47,12 @@ pub record IsBetween (c : ℕ) (db : Database) (lines : List Line) (s : State) :
   pub is : s ≡ one c db older wrote position (between lines)
   pub none_later : NoneLater c wrote
 
--- from a state on, the entries are legal, give these replies, and leave the session between two lines again
+-- from a state on, the entries are legal, give these replies, and leave the session between two lines again; none of them is a
+-- refusal for want of memory
 pub record LeadsTo (s : State) (es : List Entry) (rs : List Reply) (c : ℕ) (db : Database) (lines : List Line) : Type 0 where
   pub legal : IsLegal s es
   pub gives : replies s es ≡ rs
+  pub memory : AllByRecursion HadMemory es
   pub leaves : IsBetween c db lines (replay s es)
 
 -- wherever the session stands before this line, the entries are the line's, with one reply

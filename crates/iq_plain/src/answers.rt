@@ -6,8 +6,8 @@ ghost use Rattle.iq_model.specs.Statements.{projected, rows_of, rows_at, answer}
 
 use crate::tables::{PlainSlot, PlainTable, table_of};
 use iq_ast::{Item, Select};
-use iq_base::{Column, Listed, NoMemory, Out};
-use iq_model::projected_row;
+use iq_base::{Column, Listed, NoMemory};
+use iq_model::{Out, projected_row};
 use std::alloc::Global;
 
 /// The rows of a query, where it is not refused: one row with the number of rows for COUNT(*), else the values of each row.

@@ -1,7 +1,7 @@
 //! What a write leaves, over plain tables.
 ghost use Rattle.std.specs.Prelude.{◌≡◌, IfOk};
 ghost use Rattle.std.specs.Option.{option_copied};
-ghost use Rattle.iq_model.specs.Statements.{inserted, effect};
+ghost use Rattle.iq_model.specs.Statements.{inserted, effect, HasWriteMeaning};
 ghost use Rattle.iq_ast.specs.Built.{IsBuiltWrite};
 
 use crate::tables::{PlainTable, PlainTables, placed, push_tables, replaced, table_of};
@@ -11,7 +11,8 @@ use std::alloc::Global;
 
 /// Copies of the tables as a write leaves them, where it is not refused.
 pub fn effect(alloc: Global, write: &Write, tables: &[PlainTable]) -> Result<PlainTables, NoMemory>
-    requires { IsBuiltWrite write.now }
+    requires built { IsBuiltWrite write.now }
+    requires meaning { HasWriteMeaning write.now }
     ensures { IfOk result (λ after. after ≡ effect write.now tables.now) }
 {
     match write {
@@ -28,7 +29,12 @@ pub fn effect(alloc: Global, write: &Write, tables: &[PlainTable]) -> Result<Pla
             rows.as_slice(),
             tables,
         ),
-        _ => copied_tables(alloc, tables),
+        Write::DropTable { .. }
+        | Write::CreateIndex { .. }
+        | Write::DropIndex { .. }
+        | Write::Load { .. }
+        | Write::Delete { .. }
+        | Write::Update { .. } => unreachable!(),
     }
 }
 

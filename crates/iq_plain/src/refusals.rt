@@ -2,7 +2,7 @@
 ghost use Rattle.std.specs.Prelude.{◌≡◌, ◌+◌, ◌<◌, ◌^◌, ◌++◌, length, is_some, nat_le, nat_lt};
 ghost use Rattle.std.specs.Option.{option_copied};
 ghost use Rattle.iq_model.specs.Tables.{table_of};
-ghost use Rattle.iq_model.specs.Statements.{first_refusal, found_if, statement_checks, write_checks, insert_checks, select_checks, room_check, room_checks, most_tables};
+ghost use Rattle.iq_model.specs.Statements.{first_refusal, found_if, statement_checks, write_checks, insert_checks, select_checks, room_check, room_checks, most_tables, HasMeaning, HasWriteMeaning};
 ghost use Rattle.iq_base.specs.Limits.{row_limit};
 ghost use Rattle.iq_model.specs.Scripts.{HasFewTuples};
 
@@ -16,7 +16,8 @@ const MOST_TABLES: usize = 64;
 
 /// The first refusal of a statement: of what it names and of its values, and then of a table's room.
 pub fn refusal_of(statement: &Statement, tables: &[PlainTable]) -> Option<Refusal>
-    requires { HasFewTuples statement.now }
+    requires meaning { HasMeaning statement.now }
+    requires few { HasFewTuples statement.now }
     ensures { result ≡ first_refusal (statement_checks statement.now tables.now ++ room_checks statement.now tables.now) }
 {
     match statement_refusal(statement, tables) {
@@ -27,7 +28,8 @@ pub fn refusal_of(statement: &Statement, tables: &[PlainTable]) -> Option<Refusa
 
 /// The first refusal of what a statement names and of its values, which comes before its locks.
 pub fn statement_refusal(statement: &Statement, tables: &[PlainTable]) -> Option<Refusal>
-    requires { HasFewTuples statement.now }
+    requires meaning { HasMeaning statement.now }
+    requires few { HasFewTuples statement.now }
     ensures { result ≡ first_refusal (statement_checks statement.now tables.now) }
 {
     match statement {
@@ -39,33 +41,55 @@ pub fn statement_refusal(statement: &Statement, tables: &[PlainTable]) -> Option
                 select.items.as_slice(),
             )
         }
-        _ => None,
+        Statement::Begin
+        | Statement::Commit
+        | Statement::Rollback
+        | Statement::Savepoint(_)
+        | Statement::BackTo(_)
+        | Statement::Release(_)
+        | Statement::Sync => unreachable!(),
     }
 }
 
 /// The refusal of a statement for want of room in its table, which comes after its locks.
 pub fn room_refusal(statement: &Statement, tables: &[PlainTable]) -> Option<Refusal>
+    requires { HasMeaning statement.now }
     ensures { result ≡ first_refusal (room_checks statement.now tables.now) }
 {
     match statement {
         Statement::Write(write) => write_room_refusal(write, tables),
-        _ => None,
+        Statement::Select(_) => None,
+        Statement::Begin
+        | Statement::Commit
+        | Statement::Rollback
+        | Statement::Savepoint(_)
+        | Statement::BackTo(_)
+        | Statement::Release(_)
+        | Statement::Sync => unreachable!(),
     }
 }
 
 /// The same of a write.
 pub fn write_room_refusal(write: &Write, tables: &[PlainTable]) -> Option<Refusal>
+    requires { HasWriteMeaning write.now }
     ensures { result ≡ first_refusal (room_checks (Statement.Write write.now) tables.now) }
 {
     match write {
+        Write::CreateTable { .. } => None,
         Write::Insert { table, rows } => full_refusal(table_of(tables, table), rows.len()),
-        _ => None,
+        Write::DropTable { .. }
+        | Write::CreateIndex { .. }
+        | Write::DropIndex { .. }
+        | Write::Load { .. }
+        | Write::Delete { .. }
+        | Write::Update { .. } => unreachable!(),
     }
 }
 
 /// The first refusal of what a write names and of its values.
 fn write_refusal(write: &Write, tables: &[PlainTable]) -> Option<Refusal>
-    requires { HasFewTuples (Statement.Write write.now) }
+    requires meaning { HasWriteMeaning write.now }
+    requires few { HasFewTuples (Statement.Write write.now) }
     ensures { result ≡ first_refusal (write_checks write.now tables.now) }
 {
     match write {
@@ -78,7 +102,12 @@ fn write_refusal(write: &Write, tables: &[PlainTable]) -> Option<Refusal>
             table_of(tables, table),
             rows.as_slice(),
         ),
-        _ => None,
+        Write::DropTable { .. }
+        | Write::CreateIndex { .. }
+        | Write::DropIndex { .. }
+        | Write::Load { .. }
+        | Write::Delete { .. }
+        | Write::Update { .. } => unreachable!(),
     }
 }
 

@@ -2,9 +2,11 @@
 ghost use Rattle.std.specs.Prelude.{◌≡◌, ◌+◌, ◌<◌, ◌≤◌, ◌^◌, [], ◌∷◌, IfOk, Some, None, length};
 ghost use Rattle.iq_ast.specs.Built.{IsBuilt, IsBuiltWrite};
 ghost use Rattle.iq_model.specs.Scripts.{IsRunnableLine, IsRunnable, HasFewTuples};
-ghost use Rattle.iq_model.specs.Statements.{first_refusal, statement_checks, room_checks};
+ghost use Rattle.iq_model.specs.Statements.{first_refusal, statement_checks, room_checks, HasMeaning, HasWriteMeaning};
 ghost use Rattle.iq_model.specs.State.{start};
 ghost use Rattle.iq_model.specs.History.{DeedIs, IsOnTables, IsWhole, write_said, replies};
+ghost use Rattle.std.specs.List.{AllByRecursion};
+ghost use Rattle.iq_plain.specs.Plain.{HadMemory};
 ghost use Rattle.iq_plain.specs.OneSession.{Runs, RefusesAtOnce};
 
 use crate::answers::answer;
@@ -12,9 +14,9 @@ use crate::effects::effect;
 use crate::refusals::{statement_refusal, write_room_refusal};
 use crate::tables::PlainTables;
 use iq_ast::{Select, Statement, Write};
-use iq_base::{Answer, Listed, NoMemory, Refusal};
+use iq_base::{Listed, NoMemory, Refusal};
 use iq_history::Entry;
-use iq_model::{Deed, Line, Reply, Said, Script, names_of};
+use iq_model::{Answer, Deed, Line, Reply, Said, Script, names_of, write_said};
 use std::alloc::Global;
 
 /// What a script is answered over plain tables, and the history whose replies these are.
@@ -33,11 +35,13 @@ struct LineRun {
     latest: u64,
 }
 
-/// Runs the lines of a script in their order, from no tables on.
+/// Runs the lines of a script in their order, from no tables on. Where memory is wanting it answers so, and no line is refused
+/// for it.
 pub fn plain_replies(alloc: Global, script: &Script) -> Result<PlainRun, NoMemory>
     requires runnable { IsRunnable script.now }
     ensures whole { IfOk result (λ run. IsWhole script.now [] run.entries) }
     ensures replies { IfOk result (λ run. run.replies ≡ replies (start script.now []) run.entries) }
+    ensures memory { IfOk result (λ run. AllByRecursion HadMemory run.entries) }
 {
     let mut answers = Listed::new(alloc);
     let mut entries = Vec::new(alloc);
@@ -85,6 +89,7 @@ fn run_statement(
 ) -> Result<LineRun, NoMemory>
     requires deed { line.now.deed ≡ Deed.Statement statement.now }
     requires built { IsBuilt statement.now }
+    requires meaning { HasMeaning statement.now }
     requires few { HasFewTuples statement.now }
     requires more { latest + 1 < 2 ^ 64 }
     ensures runs { IfOk result (Runs line.now latest tables) }
@@ -95,7 +100,13 @@ fn run_statement(
         None => match statement {
             Statement::Write(write) => run_write(alloc, line, write, tables, latest),
             Statement::Select(select) => answered_line(alloc, line, select, tables, latest),
-            _ => unreachable!(),
+            Statement::Begin
+            | Statement::Commit
+            | Statement::Rollback
+            | Statement::Savepoint(_)
+            | Statement::BackTo(_)
+            | Statement::Release(_)
+            | Statement::Sync => unreachable!(),
         },
     }
 }
@@ -110,6 +121,7 @@ fn run_write(
 ) -> Result<LineRun, NoMemory>
     requires deed { line.now.deed ≡ Deed.Statement (Statement.Write write.now) }
     requires built { IsBuiltWrite write.now }
+    requires meaning { HasWriteMeaning write.now }
     requires few { HasFewTuples (Statement.Write write.now) }
     requires granted { first_refusal (statement_checks (Statement.Write write.now) tables) ≡ None }
     requires more { latest + 1 < 2 ^ 64 }
@@ -164,6 +176,7 @@ fn full_line(
 ) -> Result<LineRun, NoMemory>
     requires deed { line.now.deed ≡ Deed.Statement (Statement.Write write.now) }
     requires built { IsBuiltWrite write.now }
+    requires meaning { HasWriteMeaning write.now }
     requires few { HasFewTuples (Statement.Write write.now) }
     requires granted { first_refusal (statement_checks (Statement.Write write.now) tables) ≡ None }
     requires cause { first_refusal (room_checks (Statement.Write write.now) tables) ≡ Some cause }
@@ -204,6 +217,7 @@ fn written_line(
 ) -> Result<LineRun, NoMemory>
     requires deed { line.now.deed ≡ Deed.Statement (Statement.Write write.now) }
     requires built { IsBuiltWrite write.now }
+    requires meaning { HasWriteMeaning write.now }
     requires few { HasFewTuples (Statement.Write write.now) }
     requires granted { first_refusal (statement_checks (Statement.Write write.now) tables) ≡ None }
     requires room { first_refusal (room_checks (Statement.Write write.now) tables) ≡ None }
@@ -261,25 +275,4 @@ fn answered_line(
         tables,
         latest,
     })
-}
-
-/// What a write that took effect is answered.
-fn write_said(write: &Write, commit: Option<u64>) -> Said
-    requires { HasFewTuples (Statement.Write write.now) }
-    ensures { result ≡ write_said write.now commit }
-{
-    match write {
-        Write::CreateTable { .. } | Write::CreateIndex { .. } => Said::Created { commit },
-        Write::DropTable { .. } | Write::DropIndex { .. } => Said::Dropped { commit },
-        Write::Insert { rows, .. } => Said::Inserted {
-            rows: rows.len() as u32,
-            commit,
-        },
-        Write::Load { rows, .. } => Said::Inserted {
-            rows: *rows,
-            commit,
-        },
-        Write::Delete { .. } => Said::Deleted { rows: 0, commit },
-        Write::Update { .. } => Said::Updated { rows: 0, commit },
-    }
 }

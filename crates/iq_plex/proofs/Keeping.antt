@@ -1,6 +1,9 @@
 -- Each entry keeps what the shared state keeps.
-use Rattle.std.proofs.Common.{◌≡◌, ℕ, ◌+◌, map, ◌<◌, ◌^◌, List, [], ◌∷◌, ◌++◌, length, refl, sym, ◌∙◌, ap, subst, arith, Some, None, length-append}
-use Rattle.iq_base.specs.declared.names.Name.{Name}
+use Rattle.std.proofs.Common.{◌≡◌, ℕ, ◌+◌, map, ◌<◌, ◌^◌, List, [], ◌∷◌, ◌++◌, length, refl, sym, ◌∙◌, ap, subst, arith, Some, None, Option, inl, inr, length-append}
+use Rattle.std.specs.Prelude.{IsSomeAnd}
+use Rattle.std.specs.List.{slice_get}
+use Rattle.std.specs.Option.{option_or}
+use Rattle.iq_base.specs.Shorts.{Name}
 use Rattle.iq_base.specs.declared.nodes.NodeKind.TheVariants.{Coordinator}
 use Rattle.iq_base.specs.declared.nodes.SessionSpec.{SessionSpec}
 use Rattle.iq_base.specs.declared.refusals.Refusal.{Refusal}
@@ -11,16 +14,19 @@ use Rattle.iq_history.specs.State.{HistoryState, IsPushed}
 use Rattle.iq_model.specs.Scripts.{IsRunnable}
 use Rattle.iq_model.specs.declared.scripts.Script.{Script}
 use Rattle.iq_model.specs.Tables.{Database}
-use Rattle.iq_model.specs.Statements.{first_refusal, statement_checks, room_checks, tables_after}
-use Rattle.iq_model.specs.State.{State, Desk, Run, Standing, idle, lost, running, Stage, NodeState, Written, start}
+use Rattle.iq_model.specs.Statements.{Check, first_refusal, statement_checks, room_checks, tables_after}
+use Rattle.iq_model.specs.State.{State, Desk, Run, Standing, idle, lost, running, Stage, NodeState, Written, start, not_held, locks}
 use Rattle.iq_model.specs.declared.scripts.Line.{Line}
-use Rattle.iq_model.specs.History.{IsPossible, IsLegal, DeskIs, CanBegin, change, replay}
+use Rattle.iq_model.specs.declared.scripts.Deed.{Deed}
+use Rattle.iq_model.specs.declared.scripts.Deed.TheVariants as deeds
+use Rattle.iq_model.specs.History.{IsPossible, IsLegal, DeskIs, LineIs, DeedIs, IsRunning, CanBegin, change, replay}
 use Rattle.iq_model.proofs.Replay.{replay-snoc, IsLegal-snoc, replies-snoc}
 use Rattle.iq_plex.specs.declared.stored.Stored.{Stored}
-use Rattle.iq_plex.specs.Plex.{IsOpened, CanBeginLine, AsksBegin, replies_of, IsNext, CanLockLine, CanRefuseLine, CanTakeLine, HoldsLine, AsksHeld, AsksTake, IsGranted, desk_of, OfSeen}
+use Rattle.iq_plex.specs.Plex.{Grants, Refuses, IsOpened, CanBeginLine, AsksBegin, replies_of, IsNext, CanLockLine, CanRefuseLine, CanTakeLine, CanWriteLine, MayWrite, AsksWrite, HoldsLine, AsksHeld, AsksTake, IsGranted, desk_of, OfSeen}
 use Rattle.iq_plex.specs.Sound.{IsSound, only_state, seen_by}
 use Rattle.iq_plex.specs.Stored.{StandFor}
 use Rattle.iq_plex.specs.Kept.{IsKept, IsReadyFor}
+use Rattle.iq_plex.proofs.Checks.{first_refusal-append}
 use Rattle.iq_plex.proofs.Steps.{begin_sound, position_of-only, OnDesk, on_desk, shape_of, through}
 use Rattle.iq_plex.proofs.Under.{desk_is, lock_possible, lock_sound, done_possible, done_sound}
 use Rattle.iq_plex.proofs.Start.{start_sound, start_desks}
@@ -165,6 +171,57 @@ take_of_holds s latest count room place l st seen sound holds granted =
     through s (shape_of sound) sound.shape (λ (s : State). HoldsLine s place l st) (λ (s : State). CanTakeLine s place l st) holds
     (λ here. take_only latest sound.newest sound.older sound.wrote sound.node sound.standing sound.stage sound.left place l st (subst (IsGranted st) sound.sees granted)
     (on_desk latest sound.newest sound.older sound.wrote sound.node sound.standing sound.stage sound.left place l (AsksHeld st) here))
+
+-- what holds of the line under way in other words
+desk_map : (s : State) (place l : ℕ) (P Q : Desk → Statement → Type 0) → ((desk : Desk) (st : Statement) → P desk st → Q desk st) → DeskIs s place l P → DeskIs s place l Q
+desk_map s place l P Q f h = at_desk (slice_get s.desks place) h
+  where
+    at_deed : (desk : Desk) (d : Deed) → DeedIs d (P desk) → DeedIs d (Q desk)
+    at_deed desk (deeds.Statement st) h = f desk st h
+    at_deed desk (deeds.Step step) h = h
+
+    at_line : (desk : Desk) (lines : List Line) → LineIs lines l (P desk) → LineIs lines l (Q desk)
+    at_line desk [] h = h
+    at_line desk (line ∷ lines) h = (h.0, at_deed desk line.deed h.1)
+
+    at_desk : (o : Option Desk) → IsSomeAnd o (λ desk. LineIs desk.left l (P desk)) → IsSomeAnd o (λ desk. LineIs desk.left l (Q desk))
+    at_desk None h = h
+    at_desk (Some desk) h = at_line desk desk.left h
+
+running_map : (standing : Standing) (P Q : Run → Type 0) → ((run : Run) → P run → Q run) → IsRunning standing P → IsRunning standing Q
+running_map idle P Q f h = h
+running_map lost P Q f h = h
+running_map (running run) P Q f h = f run h
+
+-- a write that is granted is of a line that holds its names
+pub holds_of_write : (s : State) (place l : ℕ) (st : Statement) → CanWriteLine s place l st → HoldsLine s place l st
+holds_of_write s place l st can =
+    desk_map s place l (AsksWrite st) (AsksHeld st)
+    (λ desk statement h. (h.0, h.1, running_map desk.standing (MayWrite statement) (λ run. not_held run.now.held (locks statement) ≡ []) (λ run may. may.0) h.2)) can
+
+granted_only : (newest : Database) (standing : Standing) (stage : Stage) (left : List Line) (place l : ℕ) (st : Statement) → OnDesk place l left (AsksWrite st (desk_of standing stage left))
+    → Grants (statement_checks st (seen_by standing newest))
+granted_only newest idle stage left place l st on = absurd on.holds.2
+granted_only newest lost stage left place l st on = absurd on.holds.2
+granted_only newest (running run) stage left place l st on = subst (λ (x : Statement). Grants (statement_checks x run.now.seen)) on.holds.0 on.holds.2.1
+
+-- and nothing refuses it over what the session sees
+pub write_granted : (script : Script) (history : HistoryState) (tables : List Stored) (latest place l : ℕ) (st : Statement) (kept : IsKept script history tables latest) → CanWriteLine (left_by script history.entries) place l st
+    → Grants (statement_checks st kept.seen)
+write_granted script history tables latest place l st kept can =
+    let sound = kept.sound in
+    through (left_by script history.entries) (shape_of sound) sound.shape (λ (s : State). CanWriteLine s place l st) (λ (s : State). Grants (statement_checks st kept.seen)) can
+    (λ here. subst (λ (db : Database). Grants (statement_checks st db)) (sym sound.sees)
+    (granted_only sound.newest sound.standing sound.stage sound.left place l st
+    (on_desk latest sound.newest sound.older sound.wrote sound.node sound.standing sound.stage sound.left place l (AsksWrite st) here)))
+
+-- the tests of two lists
+pub both_granted : (xs ys : List Check) → Grants xs → Grants ys → Grants (xs ++ ys)
+both_granted xs ys first then_these = first_refusal-append xs ys ∙ ap (λ (o : Option Refusal). option_or o (first_refusal ys)) first ∙ then_these
+
+pub then_refuses : (xs ys : List Check) (cause : Refusal) → Grants xs → Refuses ys cause → Refuses (xs ++ ys) cause
+then_refuses xs ys cause first (inl memory) = inl memory
+then_refuses xs ys cause first (inr found) = inr (first_refusal-append xs ys ∙ ap (λ (o : Option Refusal). option_or o (first_refusal ys)) first ∙ found)
 
 -- a fact of all tables that are stood for is one of what the running transaction sees
 pub of_seen : (script : Script) (history : HistoryState) (tables : List Stored) (latest : ℕ) (P : Database → Type 0) → IsKept script history tables latest

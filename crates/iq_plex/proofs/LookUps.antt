@@ -1,21 +1,23 @@
 -- Look-ups among stored tables are look-ups among the plain ones for which they stand.
-use Rattle.std.proofs.Common.{◌≡◌, ℕ, zero, suc, ◌+◌, ◌≤◌, ◌<◌, Bool, true, false, List, [], ◌∷◌, length, refl, sym, ◌∙◌, ap, subst, arith, Option, Some, None, cond}
+use Rattle.std.proofs.Common.{◌≡◌, ℕ, zero, suc, ◌+◌, ◌≤◌, ◌<◌, Bool, true, false, List, [], ◌∷◌, length, refl, sym, ◌∙◌, ap, subst, arith, Option, Some, None, option_map, cond}
 use Rattle.std.proofs.Math.ListN.{set}
 use Rattle.std.specs.Prelude.{insert}
 use Rattle.std.specs.Ordering.{nat_cmp, is_gt}
 use Rattle.std.specs.Cmp.Lexicographic.{slice_cmp}
-use Rattle.std.specs.Prelude.{nat_le}
+use Rattle.std.specs.Prelude.{nat_le, is_some}
 use Rattle.std.specs.List.{slice_get}
 use Rattle.std.specs.Option.{option_or}
 use Rattle.std.proofs.lemmas.Bool.Decides.{nat_tests}
-use Rattle.iq_base.specs.declared.names.Name.{Name}
+use Rattle.iq_base.specs.Shorts.{Name}
 use Rattle.iq_base.specs.declared.values.Value.{Value}
 use Rattle.iq_base.specs.declared.schemas.Column.{Column}
 use Rattle.iq_base.specs.declared.refusals.Refusal.TheVariants as refusals
-use Rattle.iq_model.specs.Statements.{first_refusal, create_checks, insert_checks, first_bad_row}
+use Rattle.iq_ast.specs.declared.statements.Write.{Write}
+use Rattle.iq_ast.specs.declared.statements.Write.TheVariants as writes
+use Rattle.iq_model.specs.Statements.{first_refusal, found_if, most_tables, create_checks, insert_checks, write_checks, first_bad_row}
 use Rattle.iq_model.specs.Tables.{Table, Database, same_name, table_of, replaced, placed}
 use Rattle.iq_plex.specs.declared.stored.Stored.{Stored}
-use Rattle.iq_plex.specs.Stored.{StandsFor, StandFor, named, Finds, place_from, before_from}
+use Rattle.iq_plex.specs.Stored.{StandsFor, StandFor, named, bare_table, bare, place_from, before_from}
 
 -- as many stored tables as plain ones
 pub length-stand : (ss : List Stored) (db : Database) → StandFor ss db → length ss ≡ length db
@@ -137,6 +139,13 @@ placed-stand (s ∷ ss) (t ∷ ts) new t' stand stands = either s ss t ts new t'
         let own : is_gt (slice_cmp nat_cmp t'.name t.name) ≡ false = ap (λ (m : Name). is_gt (slice_cmp nat_cmp t'.name m)) (sym stand.0.name_is) ∙ at in
         rw (at, own) (stands, stand)
 
+-- a look-up among stored tables finds what the look-up among the plain ones does
+abbrev pub Finds : Option Stored → Option Table → Type 0
+Finds None None = Unit {0}
+Finds None (Some t) = ⊥
+Finds (Some s) None = ⊥
+Finds (Some s) (Some t) = StandsFor s t
+
 -- the first of a name stands for the plain one of that name
 pub finds-named : (name : Name) (ss : List Stored) (db : Database) → StandFor ss db → Finds (named name ss) (table_of name db)
 finds-named name [] [] stand = tt
@@ -152,36 +161,103 @@ finds-named name (s ∷ ss) (t ∷ ts) stand =
     either name s ss t ts true false is here further = let clash : false ≡ true = is in cc
     either name s ss t ts false true is here further = let clash : true ≡ false = is in cc
 
--- CHECKS
+-- TABLES WITHOUT THEIR ROWS
 
-pub create_exists : (s : Stored) (o : Option Table) (db : Database) (name : Name) → Finds (Some s) o → o ≡ table_of name db → Some (refusals.TableExists name) ≡ first_refusal (create_checks name db)
-create_exists s None db name finds is = absurd finds
-create_exists s (Some t) db name finds is = rw (← is) refl
+pub length-bare : (ss : List Stored) → length (bare ss) ≡ length ss
+length-bare [] = refl
+length-bare (s ∷ ss) = ap suc (length-bare ss)
 
-pub create_full : (ss : List Stored) (o : Option Table) (db : Database) (name : Name) → Finds None o → o ≡ table_of name db → StandFor ss db → 64 ≤ length ss → Some refusals.CatalogFull ≡ first_refusal (create_checks name db)
-create_full ss (Some t) db name finds is stand full = absurd finds
-create_full ss None db name finds is stand full =
-    let many : 64 ≤ length db = subst (λ (n : ℕ). 64 ≤ n) (length-stand ss db stand) full in
-    let at : nat_le 64 (length db) ≡ true = grind (arith, nat_tests) in
-    rw (← is, at) refl
+pub table_of-bare : (name : Name) (ss : List Stored) → table_of name (bare ss) ≡ option_map bare_table (named name ss)
+table_of-bare name [] = refl
+table_of-bare name (s ∷ ss) = either (same_name s.table.name name) (table_of-bare name ss)
+  where
+    either : (b : Bool) → table_of name (bare ss) ≡ option_map bare_table (named name ss) → cond b (Some (bare_table s)) (table_of name (bare ss)) ≡ option_map bare_table (cond b (Some s) (named name ss))
+    either true h = refl
+    either false h = h
 
-pub create_free : (ss : List Stored) (o : Option Table) (db : Database) (name : Name) → Finds None o → o ≡ table_of name db → StandFor ss db → length ss < 64 → None ≡ first_refusal (create_checks name db)
-create_free ss (Some t) db name finds is stand few = absurd finds
-create_free ss None db name finds is stand few =
-    let less : length db < 64 = subst (λ (n : ℕ). n < 64) (length-stand ss db stand) few in
-    let at : nat_le 64 (length db) ≡ false = grind (arith, nat_tests) in
-    rw (← is, at) refl
+bare_is : (name : Name) (ss : List Stored) (o : Option Stored) → named name ss ≡ o → table_of name (bare ss) ≡ option_map bare_table o
+bare_is name ss o is = table_of-bare name ss ∙ ap (option_map bare_table) is
 
-pub insert_missing : (o : Option Table) (db : Database) (name : Name) (rows : List (List Value)) → Finds None o → o ≡ table_of name db → Some (refusals.NoTable name) ≡ first_refusal (insert_checks name (table_of name db) rows)
-insert_missing (Some t) db name rows finds is = absurd finds
-insert_missing None db name rows finds is = rw (← is) refl
+pub create_exists : (ss : List Stored) (s : Stored) (name : Name) → named name ss ≡ Some s → Some (refusals.TableExists name) ≡ first_refusal (create_checks name (bare ss))
+create_exists ss s name is = rw (bare_is name ss (Some s) is) refl
+
+pub create_full : (ss : List Stored) (name : Name) → named name ss ≡ None → 64 ≤ length ss → Some refusals.CatalogFull ≡ first_refusal (create_checks name (bare ss))
+create_full ss name is full =
+    let many : 64 ≤ length (bare ss) = subst (λ (n : ℕ). 64 ≤ n) (sym (length-bare ss)) full in
+    let at : nat_le 64 (length (bare ss)) ≡ true = grind (arith, nat_tests) in
+    rw (bare_is name ss None is, at) refl
+
+pub create_free : (ss : List Stored) (name : Name) → named name ss ≡ None → length ss < 64 → None ≡ first_refusal (create_checks name (bare ss))
+create_free ss name is few =
+    let less : length (bare ss) < 64 = subst (λ (n : ℕ). n < 64) (sym (length-bare ss)) few in
+    let at : nat_le 64 (length (bare ss)) ≡ false = grind (arith, nat_tests) in
+    rw (bare_is name ss None is, at) refl
+
+pub insert_missing : (ss : List Stored) (name : Name) (rows : List (List Value)) → named name ss ≡ None → Some (refusals.NoTable name) ≡ first_refusal (insert_checks name (table_of name (bare ss)) rows)
+insert_missing ss name rows is = rw (bare_is name ss None is) refl
 
 option_or-none : {X : Type 0} (o : Option X) → o ≡ option_or o None
 option_or-none None = refl
 option_or-none (Some x) = refl
 
-pub insert_there : (s : Stored) (o : Option Table) (db : Database) (name : Name) (rows : List (List Value)) → Finds (Some s) o → o ≡ table_of name db → first_bad_row 1 s.table.schema.columns rows ≡ first_refusal (insert_checks name (table_of name db) rows)
-insert_there s None db name rows finds is = absurd finds
-insert_there s (Some t) db name rows finds is =
-    let same : first_bad_row 1 s.table.schema.columns rows ≡ first_bad_row 1 t.columns rows = ap (λ (cs : List Column). first_bad_row 1 cs rows) finds.columns_are in
-    rw (← is) (same ∙ option_or-none (first_bad_row 1 t.columns rows))
+pub insert_there : (ss : List Stored) (s : Stored) (name : Name) (rows : List (List Value)) → named name ss ≡ Some s → first_bad_row 1 s.table.schema.columns rows ≡ first_refusal (insert_checks name (table_of name (bare ss)) rows)
+insert_there ss s name rows is = rw (bare_is name ss (Some s) is) (option_or-none (first_bad_row 1 s.table.schema.columns rows))
+
+-- WHAT THE TESTS FIND OVER THE TABLES THAT ARE STOOD FOR is what they find over the bare ones
+
+some_bare : (o : Option Stored) (p : Option Table) → Finds o p → is_some p ≡ is_some (option_map bare_table o)
+some_bare None None finds = refl
+some_bare None (Some t) finds = absurd finds
+some_bare (Some s) None finds = absurd finds
+some_bare (Some s) (Some t) finds = refl
+
+rows_bare : (name : Name) (rows : List (List Value)) (o : Option Stored) (p : Option Table) → Finds o p → first_refusal (insert_checks name p rows) ≡ first_refusal (insert_checks name (option_map bare_table o) rows)
+rows_bare name rows None None finds = refl
+rows_bare name rows None (Some t) finds = absurd finds
+rows_bare name rows (Some s) None finds = absurd finds
+rows_bare name rows (Some s) (Some t) finds = ap (λ (cs : List Column). option_or (first_bad_row 1 cs rows) None) (sym finds.columns_are)
+
+create_bare : (name : Name) (ss : List Stored) (db : Database) → StandFor ss db → first_refusal (create_checks name db) ≡ first_refusal (create_checks name (bare ss))
+create_bare name ss db stand =
+    let there : is_some (table_of name db) ≡ is_some (table_of name (bare ss)) = some_bare (named name ss) (table_of name db) (finds-named name ss db stand) ∙ ap is_some (sym (table_of-bare name ss)) in
+    let many : length db ≡ length (bare ss) = sym (length-stand ss db stand) ∙ sym (length-bare ss) in
+    ap (λ (b : Bool). option_or (found_if b (refusals.TableExists name)) (option_or (found_if (nat_le most_tables (length db)) refusals.CatalogFull) None)) there
+    ∙ ap (λ (n : ℕ). option_or (found_if (is_some (table_of name (bare ss))) (refusals.TableExists name)) (option_or (found_if (nat_le most_tables n) refusals.CatalogFull) None)) many
+
+insert_bare : (name : Name) (rows : List (List Value)) (ss : List Stored) (db : Database) → StandFor ss db → first_refusal (insert_checks name (table_of name db) rows) ≡ first_refusal (insert_checks name (table_of name (bare ss)) rows)
+insert_bare name rows ss db stand =
+    rows_bare name rows (named name ss) (table_of name db) (finds-named name ss db stand)
+    ∙ ap (λ (o : Option Table). first_refusal (insert_checks name o rows)) (sym (table_of-bare name ss))
+
+pub checks_bare : (write : Write) (ss : List Stored) (db : Database) → StandFor ss db → first_refusal (write_checks write db) ≡ first_refusal (write_checks write (bare ss))
+checks_bare (writes.CreateTable name schema) ss db stand = create_bare name ss db stand
+checks_bare (writes.DropTable name) ss db stand = refl
+checks_bare (writes.CreateIndex name kind table column second) ss db stand = refl
+checks_bare (writes.DropIndex table name) ss db stand = refl
+checks_bare (writes.Insert name rows) ss db stand = insert_bare name rows ss db stand
+checks_bare (writes.Load table rows text) ss db stand = refl
+checks_bare (writes.Delete table cond) ss db stand = refl
+checks_bare (writes.Update table changes cond) ss db stand = refl
+
+-- PLACES OF THE FIRST OF A NAME
+
+pub none_named : (n : ℕ) (name : Name) (ss : List Stored) → place_from n name ss ≡ None → named name ss ≡ None
+none_named n name [] h = refl
+none_named n name (s ∷ ss) h = either (same_name s.table.name name) h (none_named (n + 1) name ss)
+  where
+    either : (b : Bool) → cond b (Some n) (place_from (n + 1) name ss) ≡ None → (place_from (n + 1) name ss ≡ None → named name ss ≡ None) → cond b (Some s) (named name ss) ≡ None
+    either true h further = cc
+    either false h further = further h
+
+pub named_at : (name : Name) (ss : List Stored) (i n : ℕ) → place_from n name ss ≡ Some (n + i) → named name ss ≡ slice_get ss i
+named_at name [] i n h = cc
+named_at name (s ∷ ss) zero n h = either (same_name s.table.name name) h
+  where
+    either : (b : Bool) → cond b (Some n) (place_from (n + 1) name ss) ≡ Some (n + 0) → cond b (Some s) (named name ss) ≡ Some s
+    either true h = refl
+    either false h = let past : n + 1 ≤ n + 0 = past_place (n + 1) (n + 0) name ss h in absurd (omega arith)
+named_at name (s ∷ ss) (suc i) n h = either (same_name s.table.name name) h (named_at name ss i (n + 1))
+  where
+    either : (b : Bool) → cond b (Some n) (place_from (n + 1) name ss) ≡ Some (n + suc i) → (place_from (n + 1) name ss ≡ Some (n + 1 + i) → named name ss ≡ slice_get ss i) → cond b (Some s) (named name ss) ≡ slice_get ss i
+    either true h further = let num : n ≡ n + suc i = cc in absurd (omega arith)
+    either false h further = let num : n + suc i ≡ n + 1 + i = omega arith in further (h ∙ ap Some num)

@@ -1,15 +1,15 @@
 -- What a write and a query of one stored table do to all of them.
 use Rattle.std.proofs.Common.{◌≡◌, ℕ, zero, suc, ◌+◌, ◌≤◌, ◌<◌, Bool, true, false, List, [], ◌∷◌, ◌++◌, length, refl, sym, ◌∙◌, ap, subst, arith, Option, Some, None, cond, map, get_or, filter, Result, Ok, Err, ◌⊎◌, inl, inr}
-use Rattle.std.specs.Prelude.{IfOk, IfErr, OnOk, nat_lt, slice_index, unwrap_or, is_none}
-use Rattle.std.specs.List.{slice_get, position, position_or_len}
+use Rattle.std.specs.Prelude.{IfOk, IfErr, OnOk, OnErr, nat_lt, slice_index, unwrap_or, is_none}
+use Rattle.std.specs.List.{slice_get, position, position_or_len, AllByRecursion}
 use Rattle.std.specs.Option.{option_or}
 use Rattle.std.proofs.Math.ListN.{set}
 use Rattle.std.proofs.lemmas.Option.{get_or_from_slice_get}
 use Rattle.std.proofs.lemmas.Bool.Decides.{nat_tests}
-use Rattle.iq_base.specs.declared.names.Name.{Name}
+use Rattle.iq_base.specs.Shorts.{Name}
 use Rattle.iq_base.specs.declared.values.Value.{Value}
 use Rattle.iq_base.specs.declared.schemas.Column.{Column}
-use Rattle.iq_base.specs.declared.answers.Out.{Out}
+use Rattle.iq_model.specs.declared.answers.Out.{Out}
 use Rattle.iq_base.specs.declared.refusals.Refusal.{Refusal}
 use Rattle.iq_base.specs.declared.refusals.Refusal.TheVariants as refusals
 use Rattle.iq_base.specs.Limits.{row_limit}
@@ -21,12 +21,12 @@ use Rattle.iq_table.specs.declared.table.Table.{Table as PagedTable}
 use Rattle.iq_table.specs.Table.{TableStands, Gains, GivesRows, projected as chosen}
 use Rattle.iq_table.specs.Layout.{value_at as value_in}
 use Rattle.iq_model.specs.Tables.{Slot, Table, Database, content, live_slot, with_rows, same_name, table_of, replaced}
-use Rattle.iq_model.specs.Statements.{first_refusal, found_if, insert_checks, room_check, inserted, first_bad_row, first_no_column, column_place, out_of, value_or_null, value_at, projected, rows_of, rows_at, answer}
+use Rattle.iq_model.specs.Statements.{first_refusal, found_if, IsColumnItem, select_checks, room_check, inserted, first_bad_row, first_no_column, column_place, out_of, value_or_null, value_at, projected, rows_of, rows_at, answer}
 use Rattle.iq_plex.specs.declared.stored.Stored.{Stored}
-use Rattle.iq_plex.specs.Plex.{IsTableCause, IsGranted}
-use Rattle.iq_plex.specs.Stored.{told_by, StandsFor, StandFor, place_from, AreGranted, IsRowsCause, place_in, AllPlain}
+use Rattle.iq_plex.specs.Plex.{Grants, Refuses, IsTableCause, IsGranted}
+use Rattle.iq_plex.specs.Stored.{told_by, StandsFor, StandFor, OfTables, Leads, StayAs, OfTable, TableLeads, StaysAs, AreFit, named, place_from, place_in}
 use Rattle.iq_plex.proofs.Commits.{table_of-named}
-use Rattle.iq_plex.proofs.LookUps.{found, none_found, replaced-stand}
+use Rattle.iq_plex.proofs.LookUps.{found, none_found, replaced-stand, insert_missing, insert_there, none_named, named_at}
 
 pub if_ok : {A E : Type 0} (P Q : A → Type 0) (r : Result A E) → ((x : A) → P x → Q x) → IfOk r P → IfOk r Q
 if_ok P Q (Ok x) f p = f x p
@@ -39,6 +39,10 @@ on_ok P Q (Err e) f p = tt
 pub if_err : {A E : Type 0} (P Q : E → Type 0) (r : Result A E) → ((e : E) → P e → Q e) → IfErr r P → IfErr r Q
 if_err P Q (Ok x) f p = tt
 if_err P Q (Err e) f p = f e p
+
+pub on_err : {A E : Type 0} (P Q : Type 0) (r : Result A E) → (P → Q) → OnErr r P → OnErr r Q
+on_err P Q (Ok x) f p = tt
+on_err P Q (Err e) f p = f p
 
 -- ROWS PUT INTO A TABLE
 
@@ -74,17 +78,31 @@ append_stands old new t rows same gains stands = record {
   holds = subst (TableStands (told_by new.pages) 0 new.table) (sym (content-with_rows t rows)) (gains (content t) stands.holds);
 }
 
--- rows in which nothing is wrong are granted where the table has room
-pub rows_granted : (old : Stored) (t : Table) (rows : List (List Value)) → first_bad_row 1 old.table.schema.columns rows ≡ None → old.table.slots + length rows ≤ row_limit old.table.schema.columns → StandsFor old t → AreGranted rows t
-rows_granted old t rows fit room stands =
-    let bad : first_bad_row 1 t.columns rows ≡ None = subst (λ (cs : List Column). first_bad_row 1 cs rows ≡ None) stands.columns_are fit in
-    let size : length t.slots ≡ old.table.slots = ap length stands.all_alive ∙ length-live (content t) ∙ stands.holds.slots_are in
-    let limit : old.table.slots + length rows ≤ row_limit t.columns = subst (λ (cs : List Column). old.table.slots + length rows ≤ row_limit cs) stands.columns_are room in
-    let off : nat_lt (row_limit t.columns) (length t.slots + length rows) ≡ false = not_past (row_limit t.columns) (length t.slots + length rows) (omega arith) in
-    rw (bad, off) refl
+-- a stored table as long as its plain one
+slots_are : (old : Stored) (t : Table) → StandsFor old t → length t.slots ≡ old.table.slots
+slots_are old t stands = ap length stands.all_alive ∙ length-live (content t) ∙ stands.holds.slots_are
+
+-- the test of the room finds nothing where there is room
+pub room_granted : (old : Stored) (t : Table) (count : ℕ) → old.table.slots + count ≤ row_limit old.table.schema.columns → StandsFor old t → Grants (room_check (Some t) count)
+room_granted old t count room stands =
+    let size = slots_are old t stands in
+    let limit : old.table.slots + count ≤ row_limit t.columns = subst (λ (cs : List Column). old.table.slots + count ≤ row_limit cs) stands.columns_are room in
+    let off : nat_lt (row_limit t.columns) (length t.slots + count) ≡ false = not_past (row_limit t.columns) (length t.slots + count) (omega arith) in
+    rw off refl
   where
     not_past : (a b : ℕ) → b ≤ a → nat_lt a b ≡ false
     not_past a b h = grind (arith, nat_tests)
+
+-- and the table's limit where there is none
+pub room_refused : (old : Stored) (t : Table) (count : ℕ) → row_limit old.table.schema.columns < old.table.slots + count → StandsFor old t → Refuses (room_check (Some t) count) (refusals.TableFull (row_limit old.table.schema.columns))
+room_refused old t count full stands =
+    let size = slots_are old t stands in
+    let same : row_limit old.table.schema.columns ≡ row_limit t.columns = ap row_limit stands.columns_are in
+    let on : nat_lt (row_limit t.columns) (length t.slots + count) ≡ true = past (row_limit t.columns) (length t.slots + count) (omega arith) in
+    inr (rw (on, same) refl)
+  where
+    past : (a b : ℕ) → a < b → nat_lt a b ≡ true
+    past a b h = grind (arith, nat_tests)
 
 -- PLACES AMONG THE STORED TABLES
 
@@ -109,26 +127,37 @@ found_at name ss db i at place is stand =
 
 -- AN INSERT
 
-pub insert_ok : (name : Name) (ss : List Stored) (db : Database) (i : ℕ) (at new : Stored) (rows : List (List Value)) → place_from 0 name ss ≡ Some i → at ≡ get_or ss i at
-    → ((t : Table) → StandsFor at t → AreGranted rows t × StandsFor new (with_rows t rows)) → StandFor ss db
-    → (first_refusal (insert_checks name (table_of name db) rows ++ room_check (table_of name db) (length rows)) ≡ None) × StandFor (set ss i new) (inserted (table_of name db) rows db)
-insert_ok name ss db i at new rows place is appends stand =
+-- a fact of the plain table of a place is one of the table that a look-up of its name finds
+pub of_table : (name : Name) (ss : List Stored) (i : ℕ) (at : Stored) (Q : Option Table → Type 0) → place_from 0 name ss ≡ Some i → at ≡ get_or ss i at → OfTable at (λ t. Q (Some t)) → OfTables ss (λ db. Q (table_of name db))
+of_table name ss i at Q place is h = λ db stand.
     let f = found_at name ss db i at place is stand in
-    let a = appends f.0 f.2 in
-    let here : StandFor (set ss i new) (replaced (with_rows f.0 rows) db) = replaced-stand name ss db i 0 new (with_rows f.0 rows) (place ∙ ap Some (omega arith)) stand (table_of-named name db f.0 f.1) a.1 in
-    (rw f.1 a.0, rw f.1 here)
+    subst Q (sym f.1) (h f.0 f.2)
 
-pub insert_err : (name : Name) (ss : List Stored) (db : Database) (i : ℕ) (at new : Stored) (rows : List (List Value)) (cause : Refusal) → place_from 0 name ss ≡ Some i → at ≡ get_or ss i at
-    → ((t : Table) → StandsFor at t → IsRowsCause rows t cause × StandsFor new t) → StandFor ss db
-    → ((cause ≡ refusals.NoMemory) ⊎ (first_refusal (insert_checks name (table_of name db) rows ++ room_check (table_of name db) (length rows)) ≡ Some cause)) × StandFor (set ss i new) db
-insert_err name ss db i at new rows cause place is appends stand =
+pub insert_leads : (name : Name) (ss : List Stored) (i : ℕ) (at new : Stored) (rows : List (List Value)) → place_from 0 name ss ≡ Some i → at ≡ get_or ss i at → TableLeads (λ t. with_rows t rows) at new
+    → Leads (λ db. inserted (table_of name db) rows db) ss (set ss i new)
+insert_leads name ss i at new rows place is leads = λ db stand.
     let f = found_at name ss db i at place is stand in
-    let a = appends f.0 f.2 in
-    (rw f.1 a.0, set_stand ss db i new stand (λ s t got st. (appends t (there ss i at t (λ (x : Stored). StandsFor x t) s got is st)).1))
+    let here : StandFor (set ss i new) (replaced (with_rows f.0 rows) db) = replaced-stand name ss db i 0 new (with_rows f.0 rows) (place ∙ ap Some (omega arith)) stand (table_of-named name db f.0 f.1) (leads f.0 f.2) in
+    rw f.1 here
 
-pub insert_missing_err : (name : Name) (ss : List Stored) (db : Database) (rows : List (List Value)) → place_from 0 name ss ≡ None → StandFor ss db
-    → ((refusals.NoTable name ≡ refusals.NoMemory) ⊎ (first_refusal (insert_checks name (table_of name db) rows ++ room_check (table_of name db) (length rows)) ≡ Some (refusals.NoTable name))) × StandFor ss db
-insert_missing_err name ss db rows place stand = (inr (rw (none_found 0 name ss db place stand) refl), stand)
+-- a table that stands for what it stood for leaves all so
+pub set_stays : (ss : List Stored) (i : ℕ) (at new : Stored) → at ≡ get_or ss i at → StaysAs at new → StayAs ss (set ss i new)
+set_stays ss i at new is keeps = λ db stand. set_stand ss db i new stand (λ s t got st. keeps t (there ss i at t (λ (x : Stored). StandsFor x t) s got is st))
+
+-- rows that fit the table of a name fit the one at its place
+pub fit_at : (name : Name) (ss : List Stored) (i : ℕ) (at : Stored) (rows : List (List Value)) → place_from 0 name ss ≡ Some i → at ≡ get_or ss i at → AreFit name rows ss → first_bad_row 1 at.table.schema.columns rows ≡ None
+fit_at name ss i at rows place is fit = either (slice_get ss i) refl (named_at name ss i 0 (place ∙ ap Some (omega arith)))
+  where
+    either : (o : Option Stored) → slice_get ss i ≡ o → named name ss ≡ slice_get ss i → first_bad_row 1 at.table.schema.columns rows ≡ None
+    either None got named_is = let clash : Some (refusals.NoTable name) ≡ None = insert_missing ss name rows (named_is ∙ got) ∙ fit in cc
+    either (Some s) got named_is =
+        ap (λ (x : Stored). first_bad_row 1 x.table.schema.columns rows) (sym (read_there ss i s at got is))
+        ∙ insert_there ss s name rows (named_is ∙ got) ∙ fit
+
+-- where rows fit, there is a table of the name
+pub fit_there : (name : Name) (ss : List Stored) (rows : List (List Value)) → place_from 0 name ss ≡ None → AreFit name rows ss → ⊥
+fit_there name ss rows place fit =
+    let clash : Some (refusals.NoTable name) ≡ None = insert_missing ss name rows (none_named 0 name ss place) ∙ fit in cc
 
 -- A QUERY
 
@@ -136,28 +165,25 @@ checks_nil : (o : Option Refusal) → option_or o None ≡ o
 checks_nil None = refl
 checks_nil (Some r) = refl
 
-pub select_ok : (select : Select) (ss : List Stored) (db : Database) (i : ℕ) (at : Stored) (rows : List (List Out)) → place_from 0 select.table ss ≡ Some i → at ≡ get_or ss i at
-    → ((t : Table) → StandsFor at t → (first_no_column t.columns select.items ≡ None) × (rows ≡ rows_of t.columns select.items (content t))) → StandFor ss db
-    → IsGranted (statements.Select select) db × (rows ≡ answer select db)
-select_ok select ss db i at rows place is reads stand =
-    let f = found_at select.table ss db i at place is stand in
-    let a = reads f.0 f.2 in
-    (rw (f.1, a.0) refl, a.1 ∙ ap (λ (o : Option Table). rows_at o select.items) (sym f.1))
+pub select_granted : (select : Select) (ss : List Stored) (i : ℕ) (at : Stored) → place_from 0 select.table ss ≡ Some i → at ≡ get_or ss i at → first_no_column at.table.schema.columns select.items ≡ None
+    → OfTables ss (IsGranted (statements.Select select))
+select_granted select ss i at place is none =
+    of_table select.table ss i at (λ (o : Option Table). Grants (select_checks select.table o select.items ++ [])) place is
+    (λ t stands. let here : first_no_column t.columns select.items ≡ None = subst (λ (cs : List Column). first_no_column cs select.items ≡ None) stands.columns_are none in rw here refl)
 
-pub select_err : (select : Select) (ss : List Stored) (db : Database) (i : ℕ) (at : Stored) (cause : Refusal) → place_from 0 select.table ss ≡ Some i → at ≡ get_or ss i at
-    → ((t : Table) → StandsFor at t → (cause ≡ refusals.NoMemory) ⊎ (first_no_column t.columns select.items ≡ Some cause)) → StandFor ss db → IsTableCause (statements.Select select) db cause
-select_err select ss db i at cause place is reads stand =
-    let f = found_at select.table ss db i at place is stand in either f.0 f.1 (reads f.0 f.2)
-  where
-    either : (t : Table) → table_of select.table db ≡ Some t → (cause ≡ refusals.NoMemory) ⊎ (first_no_column t.columns select.items ≡ Some cause) → IsTableCause (statements.Select select) db cause
-    either t at_t (inl memory) = inl memory
-    either t at_t (inr found_it) = inr (rw at_t (checks_nil (first_no_column t.columns select.items) ∙ found_it))
+pub select_rows : (select : Select) (ss : List Stored) (i : ℕ) (at : Stored) (rows : List (List Out)) → place_from 0 select.table ss ≡ Some i → at ≡ get_or ss i at
+    → OfTable at (λ t. rows ≡ rows_of t.columns select.items (content t)) → OfTables ss (λ db. rows ≡ answer select db)
+select_rows select ss i at rows place is reads = of_table select.table ss i at (λ (o : Option Table). rows ≡ rows_at o select.items) place is reads
 
-pub select_missing : (select : Select) (ss : List Stored) (db : Database) → place_from 0 select.table ss ≡ None → StandFor ss db → IsTableCause (statements.Select select) db (refusals.NoTable select.table)
-select_missing select ss db place stand = inr (rw (none_found 0 select.table ss db place stand) refl)
+pub select_err : (select : Select) (ss : List Stored) (i : ℕ) (at : Stored) (cause : Refusal) → place_from 0 select.table ss ≡ Some i → at ≡ get_or ss i at
+    → (cause ≡ refusals.NoMemory) ⊎ (first_no_column at.table.schema.columns select.items ≡ Some cause) → OfTables ss (λ db. IsTableCause (statements.Select select) db cause)
+select_err select ss i at cause place is (inl memory) = λ db stand. inl memory
+select_err select ss i at cause place is (inr found_it) =
+    of_table select.table ss i at (λ (o : Option Table). Refuses (select_checks select.table o select.items ++ []) cause) place is
+    (λ t stands. inr (checks_nil (first_no_column t.columns select.items) ∙ ap (λ (cs : List Column). first_no_column cs select.items) (sym stands.columns_are) ∙ found_it))
 
-pub select_stands : (ss : List Stored) (db : Database) (i : ℕ) (at new : Stored) → at ≡ get_or ss i at → ((t : Table) → StandsFor at t → StandsFor new t) → StandFor ss db → StandFor (set ss i new) db
-select_stands ss db i at new is keeps stand = set_stand ss db i new stand (λ s t got st. keeps t (there ss i at t (λ (x : Stored). StandsFor x t) s got is st))
+pub select_missing : (select : Select) (ss : List Stored) → place_from 0 select.table ss ≡ None → OfTables ss (λ db. IsTableCause (statements.Select select) db (refusals.NoTable select.table))
+select_missing select ss place = λ db stand. inr (rw (none_found 0 select.table ss db place stand) refl)
 
 -- COLUMNS OF A QUERY
 
@@ -181,7 +207,7 @@ placed_name : (columns : List Column) (name : Name) (o : Option ℕ) → column_
 placed_name columns name None is h = cc
 placed_name columns name (Some p) is h = (p, refl)
 
-pub places_within : (columns : List Column) (members : List Item) → AllPlain members → first_no_column columns members ≡ None → (i : ℕ) → i < length (map (place_in columns) members) → slice_index (map (place_in columns) members) i < length columns
+pub places_within : (columns : List Column) (members : List Item) → AllByRecursion IsColumnItem members → first_no_column columns members ≡ None → (i : ℕ) → i < length (map (place_in columns) members) → slice_index (map (place_in columns) members) i < length columns
 places_within columns [] plain h i lt = absurd (omega arith)
 places_within columns (items.Plain name ∷ members) plain h zero lt =
     let p = placed_name columns name (column_place columns name) refl (none_left (found_if (is_none (column_place columns name)) (refusals.NoColumn name)) (first_no_column columns members) h) in
@@ -200,7 +226,7 @@ out_at [] p = refl
 out_at (v ∷ row) zero = refl
 out_at (v ∷ row) (suc p) = out_at row p
 
-one_row : (columns : List Column) (members : List Item) (row : List Value) → AllPlain members → first_no_column columns members ≡ None → map out_of (chosen (map (place_in columns) members) row) ≡ projected columns members row
+one_row : (columns : List Column) (members : List Item) (row : List Value) → AllByRecursion IsColumnItem members → first_no_column columns members ≡ None → map out_of (chosen (map (place_in columns) members) row) ≡ projected columns members row
 one_row columns [] row plain h = refl
 one_row columns (items.Plain name ∷ members) row plain h =
     let p = placed_name columns name (column_place columns name) refl (none_left (found_if (is_none (column_place columns name)) (refusals.NoColumn name)) (first_no_column columns members) h) in
@@ -213,14 +239,14 @@ one_row columns (items.Sum name ∷ members) row plain h = absurd plain.0
 one_row columns (items.Min name ∷ members) row plain h = absurd plain.0
 one_row columns (items.Max name ∷ members) row plain h = absurd plain.0
 
-all_rows : (columns : List Column) (members : List Item) (rows : List (List Value)) → AllPlain members → first_no_column columns members ≡ None → map (map out_of) (map (chosen (map (place_in columns) members)) rows) ≡ map (projected columns members) rows
+all_rows : (columns : List Column) (members : List Item) (rows : List (List Value)) → AllByRecursion IsColumnItem members → first_no_column columns members ≡ None → map (map out_of) (map (chosen (map (place_in columns) members)) rows) ≡ map (projected columns members) rows
 all_rows columns members [] plain h = refl
 all_rows columns members (row ∷ rows) plain h =
     ap (λ (r : List Out). r ∷ map (map out_of) (map (chosen (map (place_in columns) members)) rows)) (one_row columns members row plain h)
     ∙ ap (λ (rs : List (List Out)). projected columns members row ∷ rs) (all_rows columns members rows plain h)
 
 -- what was read of the columns, as it is answered
-pub answered_rows : (s : Stored) (t : Table) (members : List Item) (places : List ℕ) (got : List (List Value)) (outs : List (List Out)) → AllPlain members → first_no_column s.table.schema.columns members ≡ None
+pub answered_rows : (s : Stored) (t : Table) (members : List Item) (places : List ℕ) (got : List (List Value)) (outs : List (List Out)) → AllByRecursion IsColumnItem members → first_no_column s.table.schema.columns members ≡ None
     → places ≡ map (place_in s.table.schema.columns) members → GivesRows (told_by s.pages) 0 s.table places got → outs ≡ map (map out_of) got → StandsFor s t → outs ≡ map (projected t.columns members) (content t)
 answered_rows s t members places got outs plain none at gives is stands =
     let cols = s.table.schema.columns in

@@ -1,6 +1,6 @@
 -- The shared state as contracts see it: its script, the tables that it was opened with, and its history.
 use Rattle.std.specs.Prelude.{◌≡◌, ℕ, List, [], ◌∷◌, ◌++◌, ◌⊎◌, ◌≢◌, None, Some, map}
-use Rattle.iq_base.specs.declared.names.Name.{Name}
+use Rattle.iq_base.specs.Shorts.{Name}
 use Rattle.iq_base.specs.declared.nodes.NodeSpec.{NodeSpec}
 use Rattle.iq_base.specs.declared.nodes.SessionSpec.{SessionSpec}
 use Rattle.iq_base.specs.declared.refusals.Refusal.{Refusal}
@@ -9,11 +9,12 @@ use Rattle.iq_ast.specs.declared.statements.Statement.{Statement}
 use Rattle.iq_history.specs.State.{HistoryState}
 use Rattle.iq_history.specs.declared.entries.Entry.{Entry}
 use Rattle.iq_model.specs.declared.scripts.Line.{Line}
+use Rattle.iq_model.specs.declared.scripts.Deed.TheVariants as deeds
 use Rattle.iq_model.specs.declared.scripts.Script.{Script}
 use Rattle.iq_model.specs.declared.replies.Reply.{Reply}
 use Rattle.iq_model.specs.Tables.{Database}
-use Rattle.iq_model.specs.Statements.{first_refusal, statement_checks, room_checks}
-use Rattle.iq_model.specs.State.{Stage, fresh, begun, locked, Run, Standing, idle, running, Desk, State, start, not_held, locks}
+use Rattle.iq_model.specs.Statements.{Check, first_refusal, statement_checks, room_checks}
+use Rattle.iq_model.specs.State.{Stage, fresh, begun, locked, done, Run, Standing, idle, running, Desk, State, start, not_held, locks}
 use Rattle.iq_model.specs.History.{IsLegal, change, replay, entry_replies, replies, DeskIs, IsOnTables, IsRunning, IsOpen, CanTake}
 
 -- the script, the tables at the opening, and the entries so far
@@ -60,11 +61,21 @@ pub record IsNext (old : PlexState) (e : Entry) (new : PlexState) : Type 0 where
   pub state_is : state_of new ≡ change (state_of old) e
   pub replies_are : replies_of new ≡ replies_of old ++ entry_replies (state_of old) e
 
+-- these tests find nothing
+abbrev pub Grants : List Check → Type 0
+Grants checks = first_refusal checks ≡ None
+
+-- why something is refused: want of memory, or the first that these tests find
+abbrev pub Refuses : List Check → Refusal → Type 0
+Refuses checks cause = (cause ≡ refusals.NoMemory) ⊎ (first_refusal checks ≡ Some cause)
+
 -- Why a line is refused by what its transaction sees: want of memory, what the statement names and holds, or, once its names
 -- are locked, the room of its table.
 abbrev pub HasRoomCause : Stage → Statement → Database → Refusal → Type 0
+HasRoomCause fresh statement seen cause = ⊥
+HasRoomCause begun statement seen cause = ⊥
 HasRoomCause locked statement seen cause = first_refusal (statement_checks statement seen ++ room_checks statement seen) ≡ Some cause
-HasRoomCause _ statement seen cause = ⊥
+HasRoomCause done statement seen cause = ⊥
 
 abbrev pub MayRefuse : Stage → Statement → Database → Refusal → Type 0
 MayRefuse stage statement seen cause =
@@ -109,13 +120,33 @@ AsksHeld st desk statement = (statement ≡ st) × IsOpen desk.stage × IsRunnin
 abbrev pub HoldsLine : State → ℕ → ℕ → Statement → Type 0
 HoldsLine s place l st = DeskIs s place l (AsksHeld st)
 
+-- a transaction holds the names of a statement, and nothing refuses what the statement names and holds
+abbrev pub MayWrite : Statement → Run → Type 0
+MayWrite statement run = (not_held run.now.held (locks statement) ≡ []) × Grants (statement_checks statement run.now.seen)
+
+-- the line under way is this statement, and its transaction may write it
+abbrev pub AsksWrite : Statement → Desk → Statement → Type 0
+AsksWrite st desk statement = (statement ≡ st) × IsOpen desk.stage × IsRunning desk.standing (MayWrite statement)
+
+abbrev pub CanWriteLine : State → ℕ → ℕ → Statement → Type 0
+CanWriteLine s place l st = DeskIs s place l (AsksWrite st)
+
+-- the line under way is this statement, and its transaction runs
+pub record IsUnderWay (p : PlexState) (st : Statement) : Type 0 where
+  pub run : Run
+  pub stage : Stage
+  pub line : Line
+  pub rest : List Line
+  pub at : IsAt p (running run) stage (line ∷ rest)
+  pub deed_is : line.deed ≡ deeds.Statement st
+
 -- what refuses a statement over these tables, with the room of its table, or want of memory
 abbrev pub IsTableCause : Statement → Database → Refusal → Type 0
-IsTableCause st db cause = (cause ≡ refusals.NoMemory) ⊎ (first_refusal (statement_checks st db ++ room_checks st db) ≡ Some cause)
+IsTableCause st db cause = Refuses (statement_checks st db ++ room_checks st db) cause
 
 -- nothing refuses a statement over these tables
 abbrev pub IsGranted : Statement → Database → Type 0
-IsGranted st db = first_refusal (statement_checks st db ++ room_checks st db) ≡ None
+IsGranted st db = Grants (statement_checks st db ++ room_checks st db)
 
 -- a fact of the tables as the running transaction of the line under way sees them
 abbrev pub OfSeen : PlexState → (Database → Type 0) → Type 0

@@ -1,22 +1,19 @@
 -- Stored tables, and the plain tables for which they stand.
-use Rattle.std.specs.Prelude.{◌≡◌, ◌⊎◌, ◌++◌, ℕ, ◌+◌, unwrap_or, List, [], ◌∷◌, length, map, Option, Some, None, find, if◌then◌else◌}
+use Rattle.std.specs.Prelude.{◌≡◌, ℕ, ◌+◌, unwrap_or, List, [], ◌∷◌, map, Option, Some, None, find, if◌then◌else◌}
 use Rattle.std.specs.Ordering.{nat_cmp, is_gt}
 use Rattle.std.specs.Cmp.Lexicographic.{slice_cmp}
-use Rattle.std.specs.List.{AllByRecursion}
-use Rattle.iq_base.specs.declared.names.Name.{Name}
+use Rattle.iq_base.specs.Shorts.{Name}
 use Rattle.iq_base.specs.declared.values.Value.{Value}
 use Rattle.iq_base.specs.declared.schemas.Column.{Column}
-use Rattle.iq_base.specs.declared.refusals.Refusal.{Refusal}
-use Rattle.iq_base.specs.declared.refusals.Refusal.TheVariants as refusals
 use Rattle.iq_ast.specs.declared.statements.Item.{Item}
-use Rattle.iq_ast.specs.declared.statements.Item.TheVariants as items
-use Rattle.iq_model.specs.Statements.{first_refusal, insert_checks, room_check, column_place}
-use Rattle.iq_base.specs.declared.memory_pages.MemoryPages.{MemoryPages}
-use Rattle.iq_base.specs.MemoryView.{memory_pages}
-use Rattle.iq_base.specs.Pages.{Pages}
+use Rattle.iq_model.specs.Statements.{insert_checks, column_place, item_column, first_no_column}
+use Rattle.iq_pages.specs.declared.memory_pages.MemoryPages.{MemoryPages}
+use Rattle.iq_pages.specs.MemoryView.{memory_pages}
+use Rattle.iq_pages.specs.Pages.{Pages}
 use Rattle.iq_table.specs.Table.{TableStands}
 use Rattle.iq_plex.specs.declared.stored.Stored.{Stored}
-use Rattle.iq_model.specs.Tables.{Table, Database, content, live_slot, same_name}
+use Rattle.iq_model.specs.Tables.{Table, Database, content, live_slot, same_name, table_of, empty_table}
+use Rattle.iq_plex.specs.Plex.{Grants}
 
 -- the pages of each object, all of which are told
 abbrev pub told_by : MemoryPages → ℕ → Option Pages
@@ -50,30 +47,49 @@ before_from n name (s ∷ ss) = if is_gt (slice_cmp nat_cmp name s.table.name) t
 abbrev pub named : Name → List Stored → Option Stored
 named name ss = find (λ (s : Stored). same_name s.table.name name) ss
 
--- a look-up among stored tables finds what the look-up among the plain ones does
-abbrev pub Finds : Option Stored → Option Table → Type 0
-Finds None None = Unit {0}
-Finds None (Some t) = ⊥
-Finds (Some s) None = ⊥
-Finds (Some s) (Some t) = StandsFor s t
+-- a stored table as its name and its columns tell it, without its rows
+abbrev pub bare_table : Stored → Table
+bare_table stored = empty_table stored.table.name stored.table.schema.columns
 
--- nothing is wrong with rows that are put into a table, and it has room for them
-abbrev pub AreGranted : List (List Value) → Table → Type 0
-AreGranted rows t = first_refusal (insert_checks t.name (Some t) rows ++ room_check (Some t) (length rows)) ≡ None
+abbrev pub bare : List Stored → Database
+bare ss = map bare_table ss
 
--- what refuses rows that are put into a table: want of memory, the first bad one, or the table's room
-abbrev pub IsRowsCause : List (List Value) → Table → Refusal → Type 0
-IsRowsCause rows t cause = (cause ≡ refusals.NoMemory) ⊎ (first_refusal (insert_checks t.name (Some t) rows ++ room_check (Some t) (length rows)) ≡ Some cause)
+-- a fact of each database for which stored tables stand
+abbrev pub OfTables : List Stored → (Database → Type 0) → Type 0
+OfTables ss P = (db : Database) → StandFor ss db → P db
+
+-- of each database for which the old tables stood, the new ones stand for what f makes of it
+abbrev pub Leads : (Database → Database) → List Stored → List Stored → Type 0
+Leads f old new = (db : Database) → StandFor old db → StandFor new (f db)
+
+-- the tables stand for what they stood for
+abbrev pub StayAs : List Stored → List Stored → Type 0
+StayAs old new = (db : Database) → StandFor old db → StandFor new db
+
+-- the same of one table
+abbrev pub OfTable : Stored → (Table → Type 0) → Type 0
+OfTable stored P = (t : Table) → StandsFor stored t → P t
+
+abbrev pub TableLeads : (Table → Table) → Stored → Stored → Type 0
+TableLeads f old new = (t : Table) → StandsFor old t → StandsFor new (f t)
+
+abbrev pub StaysAs : Stored → Stored → Type 0
+StaysAs old new = (t : Table) → StandsFor old t → StandsFor new t
+
+-- the rows of an INSERT fit the columns of the table that it names
+abbrev pub AreFit : Name → List (List Value) → List Stored → Type 0
+AreFit name rows ss = Grants (insert_checks name (table_of name (bare ss)) rows)
+
+-- the place of the column of a name, if there is a name and a column
+abbrev pub named_place : List Column → Option Name → Option ℕ
+named_place columns None = None
+named_place columns (Some name) = column_place columns name
 
 -- the place of the column that a member of a SELECT's list names; 0 where it names none
 abbrev pub place_in : List Column → Item → ℕ
-place_in columns (items.Plain name) = unwrap_or (column_place columns name) 0
-place_in columns _ = 0
+place_in columns item = unwrap_or (named_place columns (item_column item)) 0
 
--- each member names a column
-abbrev pub IsPlainItem : Item → Type 0
-IsPlainItem (items.Plain name) = Unit {0}
-IsPlainItem _ = ⊥
-
-abbrev pub AllPlain : List Item → Type 0
-AllPlain members = AllByRecursion IsPlainItem members
+-- each member names a column, and these are their places in order
+pub record ArePlaces (columns : List Column) (members : List Item) (places : List ℕ) : Type 0 where
+  pub all_there : first_no_column columns members ≡ None
+  pub places_are : places ≡ map (place_in columns) members

@@ -13,9 +13,9 @@ ghost use Rattle.iq_plex.specs.Kept.{IsReadyFor};
 use crate::stored::Stored;
 use crate::{queries, tables, writes};
 use iq_ast::{Select, Write};
-use iq_base::{Listed, Locks, Name, NoMemory, NodeSpec, Out, Refusal, SessionSpec};
+use iq_base::{Listed, Locks, Name, NoMemory, NodeSpec, Refusal, SessionSpec};
 use iq_history::{Entry, History};
-use iq_model::Script;
+use iq_model::{Out, Script};
 use std::alloc::Global;
 use std::marker::Model;
 use std::snapshot::Snapshot;
@@ -47,7 +47,7 @@ impl Model for Plex {
 }
 
 impl Plex {
-    ghost use Rattle.iq_plex.specs.Plex.{PlexState, state_of, IsHistoryOf, IsOpened, IsNext, CanBeginLine, CanLockLine, CanRefuseLine, HoldsLine, IsTableCause, OfSeen};
+    ghost use Rattle.iq_plex.specs.Plex.{PlexState, state_of, IsHistoryOf, IsOpened, IsNext, CanBeginLine, CanLockLine, CanRefuseLine, CanWriteLine, HoldsLine, IsUnderWay, IsTableCause, OfSeen};
 
     /// Opens the state for a script, without tables. It takes the room for the entries of all lines, so that no later call
     /// takes memory for an entry.
@@ -93,8 +93,10 @@ impl Plex {
         self.history.push(Entry::Lock { s, l: line, names });
     }
 
-    /// The first refusal of what a write names and of its values, over the tables as the line's transaction sees them.
+    /// The first refusal of what the write of the line under way names and of its values, over the tables as the line's
+    /// transaction, which has begun, sees them.
     pub fn check(&self, write: &Write) -> Option<Refusal>
+        requires under_way { IsUnderWay self.now (statements.Write write.now) }
         requires built { IsBuiltWrite write.now }
         requires few { HasFewTuples (statements.Write write.now) }
         ensures { OfSeen self.now (λ db. result ≡ first_refusal (statement_checks (statements.Write write.now) db)) }
@@ -102,9 +104,10 @@ impl Plex {
         tables::check(self.tables.as_slice(), write)
     }
 
-    /// Lets a write whose names are held take effect, or answers what refuses it and changes nothing.
+    /// Lets a write whose names are held, and of which `check` found nothing, take effect; or answers that its table has no
+    /// room or that memory is wanting, and changes nothing.
     pub fn write(&mut self, alloc: Global, s: u32, line: u32, write: &Write) -> Result<(), Refusal>
-        requires holds { HoldsLine (state_of self.old) s line (statements.Write write.now) }
+        requires granted { CanWriteLine (state_of self.old) s line (statements.Write write.now) }
         requires built { IsBuiltWrite write.now }
         requires few { HasFewTuples (statements.Write write.now) }
         ensures ok { OnOk result (IsNext self.old (entries.Done s line) self.new) }

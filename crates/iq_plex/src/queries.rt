@@ -1,17 +1,18 @@
 //! The rows of a query over stored tables.
-ghost use Rattle.std.specs.Prelude.{◌≡◌, ◌<◌, ◌⊎◌, map, Some, None, pos, [], ◌∷◌, IfErr, IfOk};
+ghost use Rattle.std.specs.Prelude.{◌≡◌, ◌<◌, ◌⊎◌, map, Some, None, pos, [], ◌∷◌, IfErr, IfOk, OnOk};
+ghost use Rattle.std.specs.List.{AllByRecursion};
 ghost use Rattle.iq_ast.specs.declared.statements.Statement.TheVariants as statements;
 ghost use Rattle.iq_ast.specs.Built.{IsPlainSelect, AreItems};
 ghost use Rattle.iq_model.specs.Tables.{Database, Table, content};
-ghost use Rattle.iq_model.specs.Statements.{first_no_column, out_of, projected, rows_of, answer};
+ghost use Rattle.iq_model.specs.Statements.{IsColumnItem, item_column, no_column, first_no_column, out_of, projected, rows_of, answer};
 ghost use Rattle.iq_plex.specs.Plex.{IsTableCause, IsGranted};
-ghost use Rattle.iq_plex.specs.Stored.{StandsFor, StandFor, place_in, AllPlain};
+ghost use Rattle.iq_plex.specs.Stored.{OfTables, StayAs, OfTable, StaysAs, place_in, ArePlaces};
 
 use crate::stored::Stored;
 use crate::tables::place_of;
 use iq_ast::{Item, Select};
-use iq_base::{Column, Listed, NoMemory, Out, Refusal, Row, Value};
-use iq_model::{column_place, first_no_column, out_of};
+use iq_base::{Column, Listed, NoMemory, Refusal, Row, Value};
+use iq_model::{Out, column_place, out_of};
 use std::alloc::Global;
 
 /// The rows of a query, or what refuses it. The tables stand as they stood.
@@ -21,9 +22,10 @@ pub fn select(
     select: &Select,
 ) -> Result<Listed<Listed<Out>>, Refusal>
     requires { IsPlainSelect select.now }
-    ensures ok { IfOk result (λ rows. (db : Database) → StandFor tables.old.items db → IsGranted (statements.Select select.now) db × (rows ≡ answer select.now db)) }
-    ensures err { IfErr result (λ cause. (db : Database) → StandFor tables.old.items db → IsTableCause (statements.Select select.now) db cause) }
-    ensures stands { (db : Database) → StandFor tables.old.items db → StandFor tables.new.items db }
+    ensures granted { OnOk result (OfTables tables.old.items (IsGranted (statements.Select select.now))) }
+    ensures rows { IfOk result (λ rows. OfTables tables.old.items (λ db. rows ≡ answer select.now db)) }
+    ensures cause { IfErr result (λ e. OfTables tables.old.items (λ db. IsTableCause (statements.Select select.now) db e)) }
+    ensures stays { StayAs tables.old.items tables.new.items }
 {
     match place_of(tables.as_slice(), &select.table) {
         None => Err(Refusal::NoTable {
@@ -40,16 +42,14 @@ fn rows_in(
     items: &[Item],
 ) -> Result<Listed<Listed<Out>>, Refusal>
     requires { AreItems items.now }
-    ensures ok { IfOk result (λ rows. (t : Table) → StandsFor stored.old t → (first_no_column t.columns items.now ≡ None) × (rows ≡ rows_of t.columns items.now (content t))) }
-    ensures err { IfErr result (λ cause. (t : Table) → StandsFor stored.old t → (cause ≡ Refusal.NoMemory) ⊎ (first_no_column t.columns items.now ≡ Some cause)) }
-    ensures stands { (t : Table) → StandsFor stored.old t → StandsFor stored.new t }
+    ensures granted { OnOk result (first_no_column stored.old.table.schema.columns items.now ≡ None) }
+    ensures rows { IfOk result (λ rows. OfTable stored.old (λ t. rows ≡ rows_of t.columns items.now (content t))) }
+    ensures cause { IfErr result (λ e. (e ≡ Refusal.NoMemory) ⊎ (first_no_column stored.old.table.schema.columns items.now ≡ Some e)) }
+    ensures stays { StaysAs stored.old stored.new }
 {
-    if let Some(cause) = first_no_column(stored.table.schema.columns.as_slice(), items) {
-        return Err(cause);
-    }
     match items {
         [Item::CountAll] => Ok(counted(alloc, stored.table.slots)?),
-        _ => Ok(read_rows(alloc, stored, items)?),
+        _ => read_rows(alloc, stored, items),
     }
 }
 
@@ -64,16 +64,17 @@ fn counted(alloc: Global, count: u32) -> Result<Listed<Listed<Out>>, NoMemory>
     Ok(rows)
 }
 
-/// The values of columns that are there, row by row. Each page of a column is read once for each mention of it.
+/// The values of columns, row by row, or the first name that is no column.
 fn read_rows(
     alloc: Global,
     stored: &mut Stored,
     items: &[Item],
-) -> Result<Listed<Listed<Out>>, NoMemory>
-    requires plain { AllPlain items.now }
-    requires there { first_no_column stored.old.table.schema.columns items.now ≡ None }
-    ensures rows { IfOk result (λ rows. (t : Table) → StandsFor stored.old t → rows ≡ map (projected t.columns items.now) (content t)) }
-    ensures stands { (t : Table) → StandsFor stored.old t → StandsFor stored.new t }
+) -> Result<Listed<Listed<Out>>, Refusal>
+    requires { AllByRecursion IsColumnItem items.now }
+    ensures granted { OnOk result (first_no_column stored.old.table.schema.columns items.now ≡ None) }
+    ensures rows { IfOk result (λ rows. OfTable stored.old (λ t. rows ≡ map (projected t.columns items.now) (content t))) }
+    ensures cause { IfErr result (λ e. (e ≡ Refusal.NoMemory) ⊎ (first_no_column stored.old.table.schema.columns items.now ≡ Some e)) }
+    ensures stays { StaysAs stored.old stored.new }
 {
     let places = places(alloc, stored.table.schema.columns.as_slice(), items)?;
     // Pages in memory of which no call is to fail refuse for want of memory alone.
@@ -81,28 +82,39 @@ fn read_rows(
         .table
         .read_columns(alloc, 0, &mut stored.pages, places.as_slice())
     {
-        Ok(rows) => answered(alloc, rows.as_slice()),
-        Err(_) => Err(NoMemory),
+        Ok(rows) => Ok(answered(alloc, rows.as_slice())?),
+        Err(_) => Err(Refusal::NoMemory),
     }
 }
 
-/// The places of the columns that a SELECT's list names.
-fn places(alloc: Global, columns: &[Column], items: &[Item]) -> Result<Vec<usize>, NoMemory>
-    ensures { IfOk result (λ ps. ps.items ≡ map (place_in columns.now) items.now) }
+/// The places of the columns that a SELECT's list names, or the first name that is none.
+fn places(alloc: Global, columns: &[Column], items: &[Item]) -> Result<Vec<usize>, Refusal>
+    requires { AllByRecursion IsColumnItem items.now }
+    ensures ok { IfOk result (λ places. ArePlaces columns.now items.now places.items) }
+    ensures cause { IfErr result (λ e. (e ≡ Refusal.NoMemory) ⊎ (first_no_column columns.now items.now ≡ Some e)) }
 {
     let mut places = Vec::new(alloc);
     for item in items {
-        places.push(place_in(columns, item))?;
+        places.push(place_in(columns, item)?)?;
     }
     Ok(places)
 }
 
-fn place_in(columns: &[Column], item: &Item) -> usize
-    ensures { result ≡ place_in columns.now item.now }
+/// The place of the column that a member names.
+fn place_in(columns: &[Column], item: &Item) -> Result<usize, Refusal>
+    requires { IsColumnItem item.now }
+    ensures place { IfOk result (λ place. place ≡ place_in columns.now item.now) }
+    ensures ok { OnOk result (no_column columns.now (item_column item.now) ≡ None) }
+    ensures cause { IfErr result (λ e. no_column columns.now (item_column item.now) ≡ Some e) }
 {
     match item {
-        Item::Plain(name) => column_place(columns, name).unwrap_or(0),
-        _ => 0,
+        Item::Plain(name) => match column_place(columns, name) {
+            None => Err(Refusal::NoColumn { name: name.again() }),
+            Some(place) => Ok(place),
+        },
+        Item::CountAll | Item::Count(_) | Item::Sum(_) | Item::Min(_) | Item::Max(_) => {
+            unreachable!()
+        }
     }
 }
 

@@ -1,7 +1,7 @@
 //! A stored table.
 ghost use Rattle.std.specs.Prelude.{◌≤◌, length};
 
-use iq_base::MemoryPages;
+use iq_pages::MemoryPages;
 use iq_table::Table;
 
 /// A table and its pages, which are in memory.

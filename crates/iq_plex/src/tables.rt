@@ -1,12 +1,12 @@
 //! Stored tables in the order of their names: look-ups, and the tests of a write.
-ghost use Rattle.std.specs.Prelude.{◌≡◌, ◌≤◌, ◌<◌, length, Option, Some, None, IfSome};
+ghost use Rattle.std.specs.Prelude.{◌≡◌, ◌≤◌, ◌<◌, length, IfSome};
 ghost use Rattle.std.specs.Option.{option_copied};
 ghost use Rattle.iq_ast.specs.declared.statements.Statement.TheVariants as statements;
 ghost use Rattle.iq_ast.specs.Built.{IsBuiltWrite};
 ghost use Rattle.iq_model.specs.Scripts.{HasFewTuples};
-ghost use Rattle.iq_model.specs.Tables.{Database, table_of};
-ghost use Rattle.iq_model.specs.Statements.{first_refusal, create_checks, insert_checks, statement_checks};
-ghost use Rattle.iq_plex.specs.Stored.{StandFor, Finds, named, place_from, before_from};
+ghost use Rattle.iq_model.specs.Tables.{table_of};
+ghost use Rattle.iq_model.specs.Statements.{first_refusal, create_checks, insert_checks, write_checks};
+ghost use Rattle.iq_plex.specs.Stored.{bare, named, place_from, before_from};
 
 use crate::stored::Stored;
 use iq_ast::Write;
@@ -16,23 +16,28 @@ use iq_model::first_bad_row;
 /// How many tables there can be.
 const MOST_TABLES: usize = 64;
 
-/// The first refusal of what a write names and of its values.
+/// The first refusal of what a write names and of its values. No row of the tables counts for it.
 pub fn check(tables: &[Stored], write: &Write) -> Option<Refusal>
     requires built { IsBuiltWrite write.now }
     requires few { HasFewTuples (statements.Write write.now) }
-    ensures { (db : Database) → StandFor tables.now db → result ≡ first_refusal (statement_checks (statements.Write write.now) db) }
+    ensures { result ≡ first_refusal (write_checks write.now (bare tables.now)) }
 {
     match write {
         Write::CreateTable { name, schema: _ } => check_create(tables, name),
         Write::Insert { table, rows } => check_insert(tables, table, rows.as_slice()),
-        _ => None,
+        Write::DropTable { .. }
+        | Write::CreateIndex { .. }
+        | Write::DropIndex { .. }
+        | Write::Load { .. }
+        | Write::Delete { .. }
+        | Write::Update { .. } => unreachable!(),
     }
 }
 
-pub fn check_create(tables: &[Stored], name: &Name) -> Option<Refusal>
-    ensures { (db : Database) → StandFor tables.now db → result ≡ first_refusal (create_checks name.now db) }
+fn check_create(tables: &[Stored], name: &Name) -> Option<Refusal>
+    ensures { result ≡ first_refusal (create_checks name.now (bare tables.now)) }
 {
-    match find(tables, name) {
+    match first_named(tables, name) {
         Some(_) => Some(Refusal::TableExists { name: name.again() }),
         None if tables.len() >= MOST_TABLES => Some(Refusal::CatalogFull),
         None => None,
@@ -41,19 +46,12 @@ pub fn check_create(tables: &[Stored], name: &Name) -> Option<Refusal>
 
 fn check_insert(tables: &[Stored], name: &Name, rows: &[Row]) -> Option<Refusal>
     requires { length rows.now ≤ 16777216 }
-    ensures { (db : Database) → StandFor tables.now db → result ≡ first_refusal (insert_checks name.now (table_of name.now db) rows.now) }
+    ensures { result ≡ first_refusal (insert_checks name.now (table_of name.now (bare tables.now)) rows.now) }
 {
-    match find(tables, name) {
+    match first_named(tables, name) {
         None => Some(Refusal::NoTable { name: name.again() }),
         Some(stored) => first_bad_row(stored.table.schema.columns.as_slice(), rows),
     }
-}
-
-/// The table of a name.
-fn find<'a>(tables: &'a [Stored], name: &Name) -> Option<&'a Stored>
-    ensures { (db : Database) → StandFor tables.now db → Finds (option_copied result) (table_of name.now db) }
-{
-    first_named(tables, name)
 }
 
 /// The first table of a name.

@@ -1,54 +1,57 @@
 //! The effect of a write on stored tables.
-ghost use Rattle.std.specs.Prelude.{◌≡◌, ◌≤◌, ◌⊎◌, length, ◌++◌, Some, None, OnOk, IfErr, IfOk};
+ghost use Rattle.std.specs.Prelude.{◌≡◌, ◌≤◌, length, None, OnOk, OnErr, IfErr, IfOk};
 ghost use Rattle.iq_ast.specs.declared.statements.Statement.TheVariants as statements;
 ghost use Rattle.iq_ast.specs.Built.{IsBuiltWrite};
 ghost use Rattle.iq_model.specs.Scripts.{HasFewTuples};
 ghost use Rattle.iq_model.specs.Tables.{Database, Table, table_of, placed, with_rows, empty_table};
-ghost use Rattle.iq_model.specs.Statements.{first_refusal, create_checks, insert_checks, room_check, inserted, effect};
-ghost use Rattle.iq_plex.specs.Plex.{IsTableCause, IsGranted};
-ghost use Rattle.iq_plex.specs.Stored.{StandsFor, StandFor, IsRowsCause, AreGranted};
+ghost use Rattle.iq_model.specs.Statements.{write_checks, room_check, room_checks, first_bad_row, inserted, effect};
+ghost use Rattle.iq_plex.specs.Plex.{Grants, Refuses};
+ghost use Rattle.iq_plex.specs.Stored.{StandsFor, bare, AreFit, OfTables, Leads, StayAs, OfTable, TableLeads, StaysAs};
 
 use crate::stored::Stored;
-use crate::tables::{before, check_create, place_of};
+use crate::tables::{before, place_of};
 use iq_ast::Write;
-use iq_base::{Column, Listed, MemoryPages, Name, NoMemory, Refusal, Row, Schema, row_limit};
-use iq_model::first_bad_row;
+use iq_base::{Column, Listed, Name, NoMemory, Refusal, Row, Schema, row_limit};
+use iq_pages::MemoryPages;
 use iq_table::Table as PagedTable;
 use std::alloc::Global;
 
-/// Writes the effect of a statement into the tables, or answers what refuses it and leaves them standing as they stood.
+/// Writes the effect of a statement, of which the tests of what it names find nothing, into the tables; or answers what refuses
+/// it, the room of its table or want of memory, and leaves the tables standing as they stood.
 pub fn write(alloc: Global, tables: &mut Vec<Stored>, write: &Write) -> Result<(), Refusal>
     requires built { IsBuiltWrite write.now }
     requires few { HasFewTuples (statements.Write write.now) }
-    ensures ok { OnOk result ((db : Database) → StandFor tables.old.items db → IsGranted (statements.Write write.now) db × StandFor tables.new.items (effect write.now db)) }
-    ensures err { IfErr result (λ cause. (db : Database) → StandFor tables.old.items db → IsTableCause (statements.Write write.now) db cause × StandFor tables.new.items db) }
+    requires granted { Grants (write_checks write.now (bare tables.old.items)) }
+    ensures ok { OnOk result (Leads (effect write.now) tables.old.items tables.new.items) }
+    ensures room { OnOk result (OfTables tables.old.items (λ db. Grants (room_checks (statements.Write write.now) db))) }
+    ensures err { OnErr result (StayAs tables.old.items tables.new.items) }
+    ensures cause { IfErr result (λ e. OfTables tables.old.items (λ db. Refuses (room_checks (statements.Write write.now) db) e)) }
 {
     match write {
-        Write::CreateTable { name, schema } => create(
-            alloc,
-            tables,
-            name,
-            schema.columns.as_slice(),
-        ),
+        Write::CreateTable { name, schema } => {
+            Ok(create(alloc, tables, name, schema.columns.as_slice())?)
+        }
         Write::Insert { table, rows } => insert(tables, table, rows.as_slice()),
-        _ => unreachable!(),
+        Write::DropTable { .. }
+        | Write::CreateIndex { .. }
+        | Write::DropIndex { .. }
+        | Write::Load { .. }
+        | Write::Delete { .. }
+        | Write::Update { .. } => unreachable!(),
     }
 }
 
 /// Puts a table without rows among the tables, in the order of names.
-pub(crate) fn create(
+fn create(
     alloc: Global,
     tables: &mut Vec<Stored>,
     name: &Name,
     columns: &[Column],
-) -> Result<(), Refusal>
+) -> Result<(), NoMemory>
     requires { length columns.now ≤ 32 }
-    ensures ok { OnOk result ((db : Database) → StandFor tables.old.items db → (first_refusal (create_checks name.now db) ≡ None) × StandFor tables.new.items (placed (empty_table name.now columns.now) db)) }
-    ensures err { IfErr result (λ cause. (db : Database) → StandFor tables.old.items db → ((cause ≡ Refusal.NoMemory) ⊎ (first_refusal (create_checks name.now db) ≡ Some cause)) × StandFor tables.new.items db) }
+    ensures ok { OnOk result (Leads (placed (empty_table name.now columns.now)) tables.old.items tables.new.items) }
+    ensures err { OnErr result (tables.new.items ≡ tables.old.items) }
 {
-    if let Some(cause) = check_create(tables.as_slice(), name) {
-        return Err(cause);
-    }
     let stored = empty_stored(alloc, name, columns)?;
     let place = before(tables.as_slice(), name);
     tables.insert(place, stored)?;
@@ -80,27 +83,30 @@ fn copied_columns(alloc: Global, columns: &[Column]) -> Result<Listed<Column>, N
     Ok(copied)
 }
 
-/// Puts rows into the table of a name.
-pub(crate) fn insert(tables: &mut Vec<Stored>, name: &Name, rows: &[Row]) -> Result<(), Refusal>
-    requires { length rows.now ≤ 16777216 }
-    ensures ok { OnOk result ((db : Database) → StandFor tables.old.items db → (first_refusal (insert_checks name.now (table_of name.now db) rows.now ++ room_check (table_of name.now db) (length rows.now)) ≡ None) × StandFor tables.new.items (inserted (table_of name.now db) rows.now db)) }
-    ensures err { IfErr result (λ cause. (db : Database) → StandFor tables.old.items db → ((cause ≡ Refusal.NoMemory) ⊎ (first_refusal (insert_checks name.now (table_of name.now db) rows.now ++ room_check (table_of name.now db) (length rows.now)) ≡ Some cause)) × StandFor tables.new.items db) }
+/// Puts rows, which fit the table's columns, into the table of a name.
+fn insert(tables: &mut Vec<Stored>, name: &Name, rows: &[Row]) -> Result<(), Refusal>
+    requires few { length rows.now ≤ 16777216 }
+    requires fit { AreFit name.now rows.now tables.old.items }
+    ensures ok { OnOk result (Leads (λ db. inserted (table_of name.now db) rows.now db) tables.old.items tables.new.items) }
+    ensures room { OnOk result (OfTables tables.old.items (λ db. Grants (room_check (table_of name.now db) (length rows.now)))) }
+    ensures err { OnErr result (StayAs tables.old.items tables.new.items) }
+    ensures cause { IfErr result (λ e. OfTables tables.old.items (λ db. Refuses (room_check (table_of name.now db) (length rows.now)) e)) }
 {
     match place_of(tables.as_slice(), name) {
-        None => Err(Refusal::NoTable { name: name.again() }),
+        None => unreachable!(),
         Some(place) => append(&mut tables[place], rows),
     }
 }
 
-/// Puts rows into a table, or answers what is wrong with them.
+/// Puts rows, which fit the columns, into a table, or answers that it has no room for them.
 fn append(stored: &mut Stored, rows: &[Row]) -> Result<(), Refusal>
-    requires { length rows.now ≤ 16777216 }
-    ensures ok { OnOk result ((t : Table) → StandsFor stored.old t → AreGranted rows.now t × StandsFor stored.new (with_rows t rows.now)) }
-    ensures err { IfErr result (λ cause. (t : Table) → StandsFor stored.old t → IsRowsCause rows.now t cause × StandsFor stored.new t) }
+    requires few { length rows.now ≤ 16777216 }
+    requires fit { first_bad_row 1 stored.old.table.schema.columns rows.now ≡ None }
+    ensures ok { OnOk result (TableLeads (λ t. with_rows t rows.now) stored.old stored.new) }
+    ensures room { OnOk result (OfTable stored.old (λ t. Grants (room_check (Some t) (length rows.now)))) }
+    ensures err { OnErr result (StaysAs stored.old stored.new) }
+    ensures cause { IfErr result (λ e. OfTable stored.old (λ t. Refuses (room_check (Some t) (length rows.now)) e)) }
 {
-    if let Some(cause) = first_bad_row(stored.table.schema.columns.as_slice(), rows) {
-        return Err(cause);
-    }
     let limit = row_limit(stored.table.schema.columns.as_slice());
     if stored.table.slots as u64 + rows.len() as u64 > limit as u64 {
         return Err(Refusal::TableFull { limit });

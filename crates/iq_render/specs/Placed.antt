@@ -1,6 +1,6 @@
 -- Which places of nodes and sessions replies name: each below the count of the history's names of its kind.
 use Rattle.std.specs.Prelude.{ℕ, ◌<◌, List, length, All}
-use Rattle.iq_base.specs.declared.nodes.NodeVersion.{NodeVersion}
+use Rattle.iq_model.specs.declared.answers.NodeVersion.{NodeVersion}
 use Rattle.iq_history.specs.Placed.{IsPlacedRefusal}
 use Rattle.iq_history.specs.State.{HistoryState}
 use Rattle.iq_model.specs.declared.replies.Reply.{Reply}

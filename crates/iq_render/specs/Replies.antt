@@ -1,11 +1,11 @@
 -- How a reply is printed: the line, what is said of it, and its rows.
 use Rattle.std.specs.Prelude.{ℕ, List, [], ◌∷◌, ◌++◌, Option, Some, None, codes, length, flat_map}
 use Rattle.std.specs.Fmt.{decimal}
-use Rattle.iq_base.specs.declared.answers.Answer.{Answer}
-use Rattle.iq_base.specs.declared.answers.Answer.TheVariants.{Rows, Plan}
-use Rattle.iq_base.specs.declared.nodes.NodeVersion.{NodeVersion}
-use Rattle.iq_base.specs.declared.nodes.Sent.{Sent}
-use Rattle.iq_base.specs.declared.nodes.Sent.TheVariants.{Bagged, Own}
+use Rattle.iq_model.specs.declared.answers.Answer.{Answer}
+use Rattle.iq_model.specs.declared.answers.Answer.TheVariants.{Rows, Plan}
+use Rattle.iq_model.specs.declared.answers.NodeVersion.{NodeVersion}
+use Rattle.iq_model.specs.declared.answers.Sent.{Sent}
+use Rattle.iq_model.specs.declared.answers.Sent.TheVariants.{Bagged, Own}
 use Rattle.iq_base.specs.declared.refusals.Census.{Census}
 use Rattle.iq_model.specs.declared.replies.Reply.{Reply}
 use Rattle.iq_model.specs.declared.replies.Said.{Said}

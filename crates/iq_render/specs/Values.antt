@@ -1,8 +1,8 @@
 -- How words, names, numbers, values and rows are printed.
 use Rattle.std.specs.Prelude.{ℕ, List, [], ◌∷◌, ◌++◌, codes, nat_eq, if◌then◌else◌, slice_index_or, flat_map}
 use Rattle.std.specs.Fmt.{decimal, signed_decimal}
-use Rattle.iq_base.specs.declared.answers.Out.{Out}
-use Rattle.iq_base.specs.declared.answers.Out.TheVariants.{Null, Int, Text}
+use Rattle.iq_model.specs.declared.answers.Out.{Out}
+use Rattle.iq_model.specs.declared.answers.Out.TheVariants.{Null, Int, Text}
 
 -- a text and the end of its line
 abbrev pub line : List ℕ → List ℕ

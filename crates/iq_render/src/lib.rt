@@ -8,8 +8,6 @@
 mod entries;
 mod refusals;
 mod replies;
-#[cfg(test)]
-mod tests;
 mod values;
 mod whole;
 

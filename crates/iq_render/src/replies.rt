@@ -8,8 +8,8 @@ ghost use Rattle.iq_render.specs.Replies.{plan_line, version_numbers, version_li
 
 use crate::refusals::push_refusal;
 use crate::values::{push_count, push_named, push_place, push_row};
-use iq_base::{Answer, Census, Freed, Letters, Listed, Name, NodeVersion, Out, Sent};
-use iq_model::{Reply, Said};
+use iq_base::{Census, Letters, Listed, Name};
+use iq_model::{Answer, Freed, NodeVersion, Out, Reply, Said, Sent};
 use std::alloc::AllocError;
 
 /// The reply of one line and its rows.

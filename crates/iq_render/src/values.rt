@@ -3,7 +3,8 @@ ghost use Rattle.std.specs.Prelude.{◌≡◌, ◌<◌, ◌++◌, length, OnOk, 
 ghost use Rattle.std.specs.String.{string_bytes};
 ghost use Rattle.iq_render.specs.Values.{name_at, then_name, then_number, quoted_byte, quoted, value_text, next_value, values_text, row_line};
 
-use iq_base::{Name, Out};
+use iq_base::Name;
+use iq_model::Out;
 use std::alloc::AllocError;
 
 /// A name after a space.

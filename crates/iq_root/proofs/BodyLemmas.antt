@@ -4,9 +4,9 @@ use Rattle.std.proofs.Common.{refl, sym, ap, ◌∙◌, inr, arith, append_assoc
 use Rattle.std.proofs.lemmas.Bool.{lt-ltb, le-leb, eq-eqb, and_from}
 use Rattle.byteorder.specs.Endian.{little_number, little_bytes}
 use Rattle.byteorder.specs.Numbers.{little_number-reads_back, length-bytes_low_first}
-use Rattle.iq_block_store.specs.Frames.{number_at, bytes_of, has_header, header, framed, payload_of, numbers_at}
+use Rattle.iq_block_store.specs.Frames.{number_at, bytes_of, has_header, header, framed, payload_of, numbers_at, body_kind, gate_kind}
 use Rattle.iq_block_store.proofs.FrameLemmas.{length-header, has_header-framed, length-bytes_of, number_at-bytes_of, number_at-append, number_at-framed, payload_of-framed, numbers_back}
-use Rattle.iq_root.specs.Roots.{long_at, long_bytes, zeros, root_of, body_page, gate_page, body_block, gate_block, body_kind, gate_kind, least_format, most_format, is_valid}
+use Rattle.iq_root.specs.Roots.{long_at, long_bytes, zeros, root_of, body_page, gate_page, body_block, gate_block, least_format, most_format, is_valid}
 use Rattle.iq_root.specs.Pages.{RootFits}
 use Rattle.iq_root.specs.declared.root.Root.{Root}
 

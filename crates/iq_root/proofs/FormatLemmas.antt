@@ -1,5 +1,5 @@
 -- An empty store.
-use Rattle.std.specs.Prelude.{◌≡◌, ℕ, ◌-◌, ◌≤◌, List, length, Option, Some, Result, Ok, Err, OnOk, replicate, take}
+use Rattle.std.specs.Prelude.{◌≡◌, ℕ, ◌-◌, ◌≤◌, List, length, Option, Some, Ok, replicate, take}
 use Rattle.std.proofs.Common.{refl, ap, subst, ◌∙◌, inl, arith, length-append}
 use Rattle.std.proofs.lemmas.List.{length-take, length-replicate}
 use Rattle.iq_outside.specs.Devices.{block_of, Cut, resized, zero_block}
@@ -37,20 +37,18 @@ formatted_newest count all four fits =
     (closed_over_any (formatted count all) 0 1 (ap (λ (g : List ℕ). long_at g 16) gate ∙ gate_tells 0 0 (omega arith)))
 
 -- the four calls in a row
-pub formats : {U E T E' : Type 0} (count : ℕ) (first second : Root) (u : U) (result : Result T E') (old cut closed opened new : Option (List (List ℕ)))
+pub formats : {U E : Type 0} (count : ℕ) (first second : Root) (u : U) (old cut closed opened new : Option (List (List ℕ)))
     → first ≡ empty_root 0 count → second ≡ empty_root 1 count → Cut {T = U} {E = E} count (Ok u) old cut
     → ((all : List (List ℕ)) → cut ≡ Some all → closed ≡ Some (with_slot 0 first 0 all))
     → ((all : List (List ℕ)) → closed ≡ Some all → opened ≡ Some (with_slot 1 second 1 all)) → new ≡ opened
-    → OnOk result ((all : List (List ℕ)) → old ≡ Some all → new ≡ Some (formatted count (resized count all)))
-formats count first second u (Ok x) old cut closed opened new is_first is_second by_cut by_first by_second same = λ all told.
+    → (all : List (List ℕ)) → old ≡ Some all → new ≡ Some (formatted count (resized count all))
+formats count first second u old cut closed opened new is_first is_second by_cut by_first by_second same all told =
     same ∙ by_second _ (by_first _ (by_cut.ok all told))
     ∙ ap (λ (r : Root). Some (with_slot 1 second 1 (with_slot 0 r 0 (resized count all)))) is_first
     ∙ ap (λ (r : Root). Some (with_slot 1 r 1 (with_slot 0 (empty_root 0 count) 0 (resized count all)))) is_second
-formats count first second u (Err e) old cut closed opened new is_first is_second by_cut by_first by_second same = tt
 
-pub formats_newest : {T E : Type 0} (count : ℕ) (second : Root) (result : Result T E) (old : Option (List (List ℕ))) → 4 ≤ count
+pub formats_newest : (count : ℕ) (second : Root) (old : Option (List (List ℕ))) → 4 ≤ count
     → second ≡ empty_root 1 count → RootFits second
-    → OnOk result ((all : List (List ℕ)) → old ≡ Some all → newest (formatted count (resized count all)) ≡ Some (empty_root 1 count))
-formats_newest count second (Ok x) old four is fits = λ all told.
+    → (all : List (List ℕ)) → old ≡ Some all → newest (formatted count (resized count all)) ≡ Some (empty_root 1 count)
+formats_newest count second old four is fits all told =
     formatted_newest count (resized count all) (omega (arith, four, length-resized count all)) (subst RootFits is fits)
-formats_newest count second (Err e) old four is fits = tt

@@ -5,5 +5,6 @@ pub mod NewestLemmas
 pub mod PageLemmas
 pub mod PublishLemmas
 pub mod PublishSteps
+pub mod RootLaws
 pub mod SlotLemmas
 pub mod StepLemmas

@@ -4,8 +4,8 @@ use Rattle.std.proofs.Common.{refl, sym, ap, subst, ◌∙◌, inl, inr, arith}
 use Rattle.std.proofs.lemmas.Bool.{lt-ltb, le-ltb, leb-true, eqb-true, and_parts}
 use Rattle.iq_outside.specs.Devices.{block_of}
 use Rattle.std.proofs.lemmas.List.{get_or_past}
-use Rattle.iq_block_store.specs.Frames.{number_at, has_header, mark}
-use Rattle.iq_root.specs.Roots.{body_kind, gate_kind, long_at, root_of, is_valid, newer, newest, slot_root}
+use Rattle.iq_block_store.specs.Frames.{number_at, has_header, mark, body_kind, gate_kind}
+use Rattle.iq_root.specs.Roots.{long_at, root_of, is_valid, newer, newest, slot_root}
 use Rattle.iq_root.specs.declared.root.Root.{Root}
 
 -- past the end there is no block
@@ -65,6 +65,11 @@ slot_parity slot blocks root is =
     let parts = if_some (is_valid slot (block_of blocks (2 * slot)) (block_of blocks (2 * slot + 1))) (root_of (block_of blocks (2 * slot))) root is in
     let valid : IsValid slot (block_of blocks (2 * slot)) (block_of blocks (2 * slot + 1)) = valid_parts slot _ _ parts.0 in
     ap (λ (r : Root). r.generation % 2) parts.1 ∙ valid.parity
+
+-- the body in a slot tells its root's generation
+pub slot_body : (slot : ℕ) (blocks : List (List ℕ)) (root : Root) → slot_root slot blocks ≡ Some root → long_at (block_of blocks (2 * slot)) 16 ≡ root.generation
+slot_body slot blocks root is =
+    sym (ap (λ (r : Root). r.generation) (if_some (is_valid slot (block_of blocks (2 * slot)) (block_of blocks (2 * slot + 1))) (root_of (block_of blocks (2 * slot))) root is).1)
 
 newer_is : (a b : Option Root) (root : Root) → newer a b ≡ Some root → (a ≡ Some root) ⊎ (b ≡ Some root)
 newer_is None b root is = inr is

@@ -5,13 +5,13 @@ use Rattle.std.proofs.lemmas.Bool.{cases_lt, cases_Bool, ltb-true, lt-ltb}
 use Rattle.std.proofs.lemmas.List.{set-set, set_comm}
 use Rattle.std.proofs.lemmas.Nat.{mod_below}
 use Rattle.iq_outside.specs.Devices.{block_of, SameBut}
-use Rattle.iq_block_store.specs.Frames.{has_header}
-use Rattle.iq_root.specs.Roots.{gate_kind, body_place, gate_place, long_at, root_of, is_valid, slot_root, newer, newest, body_block, gate_block}
+use Rattle.iq_block_store.specs.Frames.{has_header, gate_kind}
+use Rattle.iq_root.specs.Roots.{body_place, gate_place, long_at, root_of, is_valid, slot_root, newer, newest, body_block, gate_block}
 use Rattle.iq_outside.proofs.ImageLemmas.{SameBut-set}
 use Rattle.iq_root.proofs.SlotLemmas.{in_slot, slot_trans}
 use Rattle.iq_root.specs.Pages.{RootFits}
 use Rattle.iq_root.specs.Stops.{SameButSlot}
-use Rattle.iq_root.specs.Publishing.{slot_of, with_slot, published, Follows, HasLastOrNew, IsStale, HasBody, IsGateWhole, SameRoots}
+use Rattle.iq_root.specs.Publishing.{slot_of, with_slot, published, Follows, HasLastOrNew, stays, comes, IsStale, HasBody, ReadsAs, IsGateWhole, as_before, closed, headless, behind_body, SameRoots}
 use Rattle.iq_root.proofs.NewestLemmas.{valid_parts, IsOlder, AreBoth, slot_parity, newest_slot, newest_over, if_older, torn_over_old, closed_over_any, torn_over_new}
 use Rattle.iq_root.proofs.BodyLemmas.{gate_tells, root_of_body, written_valid}
 use Rattle.iq_root.specs.declared.root.Root.{Root}
@@ -53,23 +53,30 @@ with_rest slot generation root all =
     (in_slot slot (gate_place slot) with_body (with_slot slot root generation all) (inr refl) (SameBut-set (gate_place slot) with_body (gate_block slot generation)))
 
 -- the slots of two roots in a row
-both_slots : (last root : Root) → root.generation ≡ last.generation + 1 → AreBoth (slot_of root) (slot_of last)
+pub both_slots : (last root : Root) → root.generation ≡ last.generation + 1 → AreBoth (slot_of root) (slot_of last)
 both_slots last root next = elim (cases_lt (last.generation % 2) 1) [
   | inl even ↦ inr (omega (arith, even, next), omega (arith, even))
   | inr odd ↦ inl (omega (arith, odd, next), omega (arith, odd, mod_below last.generation 2 (omega arith)))
 ]
 
 -- the blocks of a slot are the same
-record SameSlot (slot : ℕ) (all b : List (List ℕ)) : Type 0 where
+pub record SameSlot (slot : ℕ) (all b : List (List ℕ)) : Type 0 where
   pub body : block_of b (body_place slot) ≡ block_of all (body_place slot)
   pub gate : block_of b (gate_place slot) ≡ block_of all (gate_place slot)
 
-same_root : (slot : ℕ) (all b : List (List ℕ)) → SameSlot slot all b → slot_root slot b ≡ slot_root slot all
+pub same_root : (slot : ℕ) (all b : List (List ℕ)) → SameSlot slot all b → slot_root slot b ≡ slot_root slot all
 same_root slot all b same =
     ap (λ (body : List ℕ). if is_valid slot body (block_of b (gate_place slot)) then Some (root_of body) else None) same.body
     ∙ ap (λ (gate : List ℕ). if is_valid slot (block_of all (body_place slot)) gate then Some (root_of (block_of all (body_place slot))) else None) same.gate
 
-other_same : (s o : ℕ) (all b : List (List ℕ)) → AreBoth s o → SameButSlot s all b → SameSlot o all b
+-- a slot of the same body whose gate reads the same
+same_read : (slot : ℕ) (all b : List (List ℕ)) → block_of b (body_place slot) ≡ block_of all (body_place slot)
+    → ReadsAs gate_kind (gate_place slot) (block_of b (gate_place slot)) (block_of all (gate_place slot)) → slot_root slot b ≡ slot_root slot all
+same_read slot all b body gate =
+    ap (λ (x : List ℕ). if is_valid slot x (block_of b (gate_place slot)) then Some (root_of x) else None) body
+    ∙ rw (gate.header, gate.generation) refl
+
+pub other_same : (s o : ℕ) (all b : List (List ℕ)) → AreBoth s o → SameButSlot s all b → SameSlot o all b
 other_same s o all b (inl is) same = record {
   body = same.others (body_place o) (omega (arith, is.0, is.1)) (omega (arith, is.0, is.1));
   gate = same.others (gate_place o) (omega (arith, is.0, is.1)) (omega (arith, is.0, is.1));
@@ -178,8 +185,8 @@ module _ (all : List (List ℕ)) (last root : Root) (follows : Follows all last 
   last_or_new b there =
       let same = other_same (slot_of root) (slot_of last) all b both there.rest in
       elim (torn_over_new b (slot_of root) root (ap root_of there.body ∙ root_of_body (slot_of root) root fits)) [
-        | inl none ↦ inl (last_stays b same (subst (λ (x : Option Root). IsOlder x last.generation) (sym none) tt))
-        | inr some ↦ inr (root_comes b same some, there.rest)
+        | inl none ↦ stays (last_stays b same (subst (λ (x : Option Root). IsOlder x last.generation) (sym none) tt))
+        | inr some ↦ comes (root_comes b same some) there.rest
       ]
 
   -- a gate without a right header
@@ -189,6 +196,16 @@ module _ (all : List (List ℕ)) (last root : Root) (follows : Follows all last 
       if_older _ (root_of (block_of b (body_place (slot_of root)))) last.generation
       (λ valid. absurd (true_false _ (valid_parts (slot_of root) (block_of b (body_place (slot_of root))) (block_of b (gate_place (slot_of root))) valid).gate_header missing))
 
+  -- under a gate that a write may leave
+  under_gate : (b : List (List ℕ)) → block_of b (body_place (slot_of root)) ≡ block_of all (body_place (slot_of root))
+      → SameSlot (slot_of last) all b → IsGateWhole all root b → HasLastOrNew all last root b
+  under_gate b body same (as_before gate) = stays (last_stays b same
+      (subst (λ (x : Option Root). IsOlder x last.generation) (sym (same_read (slot_of root) all b body gate))
+      (older_beside (slot_of root) (slot_of last) all last both follows.newest_is (newest_slot all last follows.newest_is))))
+  under_gate b body same (closed gate) = stays (last_stays b same (closed_over_any b (slot_of root) last.generation gate))
+  under_gate b body same (headless missing) = stays (last_stays b same (no_gate b missing))
+  under_gate b body same (behind_body there) = last_or_new b there
+
   -- while the gate is closed
   pub closing : (c b : List (List ℕ)) → SameRoots all c → SameBut (gate_place (slot_of root)) c b
       → IsStale all last root ⊎ IsGateWhole all root b → HasLastOrNew all last root b
@@ -197,14 +214,8 @@ module _ (all : List (List ℕ)) (last root : Root) (follows : Follows all last 
       = torn.others (body_place (slot_of root)) (omega arith) ∙ roots (body_place (slot_of root)) (omega (arith, two)) in
       let same : SameSlot (slot_of last) all b = other_torn (slot_of root) (slot_of last) all c b both roots torn in
       elim safe [
-        | inl stale ↦ inl (last_stays b same (torn_over_old b (slot_of root) last.generation (block_of all (body_place (slot_of root))) body stale))
-        | inr (inl as_it_was) ↦ inl (last_stays b same
-            (subst (λ (x : Option Root). IsOlder x last.generation) (sym (same_root (slot_of root) all b (record { body = body; gate = as_it_was })))
-            (older_beside (slot_of root) (slot_of last) all last both follows.newest_is (newest_slot all last follows.newest_is))))
-        | inr (inr (inl closed)) ↦ inl (last_stays b same
-            (closed_over_any b (slot_of root) last.generation (ap (λ (g : List ℕ). long_at g 16) closed ∙ gate_tells (slot_of root) 0 (omega arith))))
-        | inr (inr (inr (inl missing))) ↦ inl (last_stays b same (no_gate b missing))
-        | inr (inr (inr (inr there))) ↦ last_or_new b there
+        | inl stale ↦ stays (last_stays b same (torn_over_old b (slot_of root) last.generation (block_of all (body_place (slot_of root))) body stale))
+        | inr whole ↦ under_gate b body same whole
       ]
 
   closed_rest : SameButSlot (slot_of root) all (closed_blocks root all)
@@ -222,7 +233,7 @@ module _ (all : List (List ℕ)) (last root : Root) (follows : Follows all last 
       let gate : block_of b (gate_place (slot_of root)) ≡ gate_block (slot_of root) 0
       = torn.others (gate_place (slot_of root)) (omega arith)
       ∙ get_or-set_same all (gate_place (slot_of root)) (gate_block (slot_of root) 0) [] (omega (arith, two, four)) in
-      inl (last_stays b same
+      stays (last_stays b same
       (closed_over_any b (slot_of root) last.generation (ap (λ (g : List ℕ). long_at g 16) gate ∙ gate_tells (slot_of root) 0 (omega arith))))
 
   -- while the gate is opened
@@ -244,4 +255,4 @@ module _ (all : List (List ℕ)) (last root : Root) (follows : Follows all last 
       (root_of_body (slot_of root) root fits))
 
   pub published_leaves : HasLastOrNew all last root (published root all)
-  published_leaves = inr (published_newest, with_rest (slot_of root) root.generation root all)
+  published_leaves = comes published_newest (with_rest (slot_of root) root.generation root all)

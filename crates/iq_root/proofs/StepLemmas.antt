@@ -1,7 +1,10 @@
 -- What a block that is written and synced leaves of a device.
-use Rattle.std.specs.Prelude.{◌≡◌, ◌⊎◌, ℕ, ◌≤◌, Bool, List, length, Option, Some, None, Result, Ok, Err, OnOk, OnErr, slice_set}
-use Rattle.std.proofs.Common.{refl, ap, subst, ◌∙◌, arith, length-set}
-use Rattle.iq_outside.specs.Devices.{KeepsPast, IsSettled, SameBut, HasWritten, HasSynced, Stored, Cut, resized}
+use Rattle.std.specs.Prelude.{◌≡◌, ◌⊎◌, ℕ, ◌≤◌, List, length, Option, Some, None, Result, Ok, Err, OnOk, OnErr, IsErr, slice_set}
+use Rattle.std.proofs.Common.{refl, ap, subst, ◌∙◌, inl, inr, arith, length-set}
+use Rattle.std.proofs.lemmas.Bool.{cases_lt}
+use Rattle.iq_outside.specs.Devices.{Seen, GoesOn, WholeSame, WholeBut, SameBut, Stored, Cut, resized}
+use Rattle.iq_outside.specs.DeviceCalls.{view, KeepsPast, IsSettled, HasWritten, HasSynced}
+use Rattle.iq_outside.specs.declared.device.Device.{Ghosts}
 use Rattle.iq_outside.proofs.ImageLemmas.{SameBut-set}
 use Rattle.iq_root.specs.Roots.{body_place, gate_place, body_block, gate_block}
 use Rattle.iq_root.specs.Stops.{LeavesOnly, LeftButSlot}
@@ -18,6 +21,11 @@ on_ok (Err e) p = tt
 on_err : {T E : Type 0} {P : Type 0} (result : Result T E) → P → OnErr result P
 on_err (Ok x) p = tt
 on_err (Err e) p = p
+
+-- an error promises nothing of Ok
+pub no_ok : {T E : Type 0} (P : Type 0) (result : Result T E) → IsErr result → OnOk result P
+no_ok P (Ok x) failed = cc
+no_ok P (Err e) failed = tt
 
 -- the blocks that are told are one list
 pub told_once : (told : Option (List (List ℕ))) (a b : List (List ℕ)) → told ≡ Some a → told ≡ Some b → a ≡ b
@@ -65,57 +73,66 @@ slot_put slot generation root body gate u (Ok x) old mid new is_body is_gate fir
     ∙ ap (λ (g : List ℕ). Some (slice_set (slice_set all (body_place slot) (body_block slot root)) (gate_place slot) g)) is_gate
 slot_put slot generation root body gate u (Err e) old mid new is_body is_gate first second = tt
 
-module _ {D : Type 0} (blocks : D → Option (List (List ℕ))) (tells : D → Bool) (clock : D → ℕ) (image : D → ℕ → List (List ℕ) → Type 0) where
-  pub kept_ok : {T E U F : Type 0} (faults : D → ℕ) (at : ℕ) (block : List ℕ) (u : U) (result : Result T E) (old mid new : D)
-      → HasWritten {D = D} {T = U} {E = F} blocks faults tells clock image at block (Ok u) old mid → HasSynced blocks faults tells clock image result mid new
-      → HasKept blocks tells clock image at block result old new
-  kept_ok faults at block u result old mid new wrote synced = record {
+-- a write, and then a call that adds no whole bytes
+whole_on : (old mid new : Seen) (at : ℕ) (block : List ℕ) → GoesOn mid new → old.clock ≤ mid.clock → WholeBut at block old mid → WholeSame mid new
+    → WholeBut at block old new
+whole_on old mid new at block past later first second t i x since until whole = elim (cases_lt mid.clock t) [
+  | inl after ↦ first mid.clock i x later (omega arith) (second t i x (omega (arith, after)) until whole)
+  | inr early ↦ first t i x since early (past.whole_before t i x early whole)
+]
+
+module _ {D : Type 0} (g : Ghosts D) where
+  pub kept_ok : {T E U F V G : Type 0} (at : ℕ) (block : List ℕ) (u : U) (inner : Result V G) (result : Result T E) (old mid new : D) → (OnOk inner (IsSettled g new) → OnOk result (IsSettled g new))
+      → HasWritten {D = D} {T = U} {E = F} g at block (Ok u) old mid → HasSynced g inner mid new → HasKept g at block result old new
+  kept_ok at block u inner result old mid new carries wrote synced = record {
     content = record {
       ok = λ all told. on_ok result (synced.content ∙ wrote.content.ok all told);
       err = λ all told. on_err result (slice_set all at block, synced.content ∙ wrote.content.ok all told, SameBut-set at all block);
       untold = λ none. synced.content ∙ wrote.content.untold none;
     };
-    past = past_on tells clock image old mid new wrote.past synced.past;
-    since = leaves_on tells clock image old mid new (λ b. (c : List (List ℕ)) × image old (clock old) c × SameBut at c b) synced.past wrote.since
-        (λ t b since until left. wrote.since (clock mid) b wrote.past.later (omega arith) (synced.since t b since until left));
-    settled = synced.settled;
+    past = past_on g old mid new wrote.past synced.past;
+    since = leaves_on g old mid new (λ b. (c : List (List ℕ)) × g.image old (g.clock old) c × SameBut at c b) synced.past wrote.since
+        (λ t b since until left. wrote.since (g.clock mid) b wrote.past.later (omega arith) (synced.since t b since until left));
+    whole = whole_on (view g old) (view g mid) (view g new) at block synced.past wrote.past.later wrote.whole synced.whole;
+    settled = carries synced.settled;
   }
 
   -- what was written where it is Ok doesn't depend on the type of errors
-  pub written_ok : {U F U' F' : Type 0} (faults : D → ℕ) (at : ℕ) (block : List ℕ) (u : U) (u' : U') (old new : D)
-      → HasWritten {D = D} {T = U} {E = F} blocks faults tells clock image at block (Ok u) old new
-      → HasWritten {D = D} {T = U'} {E = F'} blocks faults tells clock image at block (Ok u') old new
-  written_ok faults at block u u' old new wrote = record {
+  pub written_ok : {U F U' F' : Type 0} (at : ℕ) (block : List ℕ) (u : U) (u' : U') (old new : D)
+      → HasWritten {D = D} {T = U} {E = F} g at block (Ok u) old new
+      → HasWritten {D = D} {T = U'} {E = F'} g at block (Ok u') old new
+  written_ok at block u u' old new wrote = record {
     content = record { ok = wrote.content.ok; err = λ all told. tt; untold = wrote.content.untold };
     counts = record { later = wrote.counts.later; failed = tt };
     past = wrote.past;
     since = wrote.since;
+    whole = wrote.whole;
     raises = λ telling. record { ok = (wrote.raises telling).ok; err = tt };
   }
 
   -- where nothing waited, only this block differs
   pub kept_images : {T E : Type 0} (at : ℕ) (block : List ℕ) (result : Result T E) (old new : D) (all : List (List ℕ))
-      → HasKept blocks tells clock image at block result old new → IsSettled blocks clock image old → blocks old ≡ Some all
-      → LeavesOnly clock image old new (SameBut at all)
+      → HasKept g at block result old new → IsSettled g old → g.blocks old ≡ Some all
+      → LeavesOnly g old new (SameBut at all)
   kept_images at block result old new all kept settled told t b since until left =
       let from = kept.since t b since until left in
-      subst (λ (c : List (List ℕ)). SameBut at c b) (told_once (blocks old) from.0 all (settled from.0 from.1) told) from.2
+      subst (λ (c : List (List ℕ)). SameBut at c b) (told_once (g.blocks old) from.0 all (settled from.0 from.1) told) from.2
 
-  pub past_stays : (now : D) → KeepsPast tells clock image now now
-  past_stays now = record { same = refl; later = omega arith; keeps = λ t b early left. left; no_more = λ t b early left. left }
+  pub past_stays : (now : D) → KeepsPast g now now
+  past_stays now = record { same = refl; later = omega arith; keeps = λ t b early left. left; no_more = λ t b early left. left; keeps_whole = λ t i x early here. here; whole_before = λ t i x early here. here }
 
   -- outside a slot, a stop leaves what one before could have left
-  pub rest_starts : (slot : ℕ) (now : D) → LeavesOnly clock image now now (LeftButSlot slot clock image now)
+  pub rest_starts : (slot : ℕ) (now : D) → LeavesOnly g now now (LeftButSlot g slot now)
   rest_starts slot now t b since until left =
-      let here : t ≡ clock now = omega (arith, since, until) in
-      (b, subst (λ (m : ℕ). image now m b) here left, slot_refl slot b)
+      let here : t ≡ g.clock now = omega (arith, since, until) in
+      (b, subst (λ (m : ℕ). g.image now m b) here left, slot_refl slot b)
 
   pub rest_goes_on : {T E : Type 0} (slot at : ℕ) (block : List ℕ) (result : Result T E) (old mid new : D)
-      → (at ≡ body_place slot) ⊎ (at ≡ gate_place slot) → KeepsPast tells clock image old mid → LeavesOnly clock image old mid (LeftButSlot slot clock image old)
-      → HasKept blocks tells clock image at block result mid new → LeavesOnly clock image old new (LeftButSlot slot clock image old)
+      → (at ≡ body_place slot) ⊎ (at ≡ gate_place slot) → KeepsPast g old mid → LeavesOnly g old mid (LeftButSlot g slot old)
+      → HasKept g at block result mid new → LeavesOnly g old new (LeftButSlot g slot old)
   rest_goes_on slot at block result old mid new within past first kept =
-      leaves_on tells clock image old mid new (LeftButSlot slot clock image old) kept.past first
+      leaves_on g old mid new (LeftButSlot g slot old) kept.past first
       (λ t b since until left.
       let from = kept.since t b since until left in
-      let before = first (clock mid) from.0 past.later (omega arith) from.1 in
+      let before = first (g.clock mid) from.0 past.later (omega arith) from.1 in
       (before.0, before.1, slot_trans slot before.0 from.0 b before.2 (in_slot slot at from.0 b within from.2)))

@@ -2,14 +2,8 @@
 use Rattle.std.specs.Prelude.{ℕ, ◌+◌, ◌*◌, ◌-◌, ◌%◌, ◌^◌, Bool, ◌&&◌, List, ◌++◌, length, drop, replicate, flat_map, nat_eq, nat_lt, nat_le, if◌then◌else◌, Option, Some, None}
 use Rattle.byteorder.specs.Endian.{little_number, little_bytes}
 use Rattle.iq_outside.specs.Devices.{block_of}
-use Rattle.iq_block_store.specs.Frames.{number_at, numbers_at, bytes_of, has_header, framed}
+use Rattle.iq_block_store.specs.Frames.{number_at, numbers_at, bytes_of, has_header, framed, body_kind, gate_kind}
 use Rattle.iq_root.specs.declared.root.Root.{Root}
-
-abbrev pub body_kind : ℕ
-body_kind = 1
-
-abbrev pub gate_kind : ℕ
-gate_kind = 2
 
 -- the formats that count
 abbrev pub least_format : ℕ

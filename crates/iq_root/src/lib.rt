@@ -7,6 +7,7 @@
 
 mod addresses;
 mod formatting;
+mod laws;
 mod newest;
 mod pages;
 mod publishing;
@@ -17,6 +18,10 @@ mod tests;
 
 pub use addresses::Addresses;
 pub use formatting::format;
+pub use laws::{
+    a_published_root_leaves_the_next_slot_stale, an_empty_store_has_a_stale_slot,
+    roots_stand_on_four_blocks,
+};
 pub use newest::newest_root;
 pub use publishing::publish;
 pub use root::{Root, RootFault};

@@ -6,10 +6,9 @@ ghost use Rattle.iq_block_store.specs.Looks.{HasLooked};
 ghost use Rattle.iq_root.specs.Roots.{long_at, root_of, may_say, slot_root, newer, newest};
 ghost use Rattle.iq_root.specs.Causes.{HasNoRoot, HasFault};
 
-use crate::pages::{BODY, GATE, long_at};
-use crate::steps::count_of;
+use crate::pages::long_at;
 use crate::{Addresses, Root, RootFault};
-use iq_block_store::{BlockFault, number_at, read};
+use iq_block_store::{BODY, BlockFault, GATE, count_of, number_at, read};
 use iq_outside::{Block, Device};
 
 /// The formats that count, from the least to the most.
@@ -19,7 +18,7 @@ const MOST_FORMAT: u32 = 2;
 
 /// The newest root: of the valid slots the one of greater generation. It takes no memory.
 pub fn newest_root<D: Device>(disk: &mut D) -> Result<Root, RootFault>
-    ensures looked { HasLooked D.blocks D.faults D.tells D.clock D.image disk.old disk.new }
+    ensures looked { HasLooked D.Device disk.old disk.new }
     ensures newest { IfOk result (λ root. (all : List (List ℕ)) → D.blocks disk.old ≡ Some all
         → newest all ≡ Some root) }
     ensures cause { IfErr result (λ e.
@@ -35,7 +34,7 @@ pub fn newest_root<D: Device>(disk: &mut D) -> Result<Root, RootFault>
 fn slot_root<D: Device>(disk: &mut D, count: u32, slot: u32) -> Result<Option<Root>, RootFault>
     requires counted { (all : List (List ℕ)) → D.blocks disk.old ≡ Some all → count ≡ length all }
     requires slot { slot < 2 }
-    ensures looked { HasLooked D.blocks D.faults D.tells D.clock D.image disk.old disk.new }
+    ensures looked { HasLooked D.Device disk.old disk.new }
     ensures root { IfOk result (λ root. (all : List (List ℕ)) → D.blocks disk.old ≡ Some all
         → root ≡ slot_root slot all) }
     ensures cause { IfErr result (λ e. HasFault e (D.faults disk.old) (D.faults disk.new)) }
@@ -63,7 +62,7 @@ fn fetched<D: Device>(
     into: &mut Block,
 ) -> Result<bool, RootFault>
     requires { (all : List (List ℕ)) → D.blocks disk.old ≡ Some all → count ≡ length all }
-    ensures looked { HasLooked D.blocks D.faults D.tells D.clock D.image disk.old disk.new }
+    ensures looked { HasLooked D.Device disk.old disk.new }
     ensures headed { IfOk result (λ b. (all : List (List ℕ)) → D.blocks disk.old ≡ Some all
         → b ≡ has_header kind at (block_of all at)) }
     ensures block { IfOk result (λ b. IsTrue b → (all : List (List ℕ)) → D.blocks disk.old ≡ Some all

@@ -6,14 +6,8 @@ ghost use Rattle.iq_root.specs.Pages.{IsDone, RootFits};
 
 use crate::Root;
 use byteorder::{ByteOrder, LittleEndian};
-use iq_block_store::Page;
+use iq_base::Page;
 use iq_outside::Block;
-
-/// The kind of a root's body.
-pub const BODY: u8 = 1;
-
-/// The kind of a root's gate.
-pub const GATE: u8 = 2;
 
 /// The generation that a body or a gate tells: the number in the first 8 bytes behind its header.
 #[tactic(auto, unfolding(crate::specs::Roots::long_at))]

@@ -1,14 +1,15 @@
 //! Publishing a root behind a closed gate.
 ghost use Rattle.std.specs.Prelude.{◌≡◌, ◌⊎◌, ◌≤◌, ℕ, List, Some, length, OnOk, IfErr};
-ghost use Rattle.iq_outside.specs.Devices.{KeepsPast, IsSettled};
+ghost use Rattle.iq_outside.specs.DeviceCalls.{KeepsPast, IsSettled};
 ghost use Rattle.iq_root.specs.Roots.{newest};
 ghost use Rattle.iq_root.specs.Stops.{SameButSlot, LeavesOnly, LeftButSlot};
 ghost use Rattle.iq_root.specs.Publishing.{slot_of, published, Follows, HasLastOrNew, IsStale, IsGateWhole, RootsAreSafe};
 ghost use Rattle.iq_root.specs.Causes.{HasFault};
 
-use crate::pages::{BODY, GATE, body_page, gate_page};
+use crate::pages::{body_page, gate_page};
 use crate::steps::keep;
 use crate::{Root, RootFault};
+use iq_block_store::{BODY, GATE};
 use iq_outside::Device;
 
 /// Publishes a root in the slot of its generation: closes the gate, writes the body, opens the gate, and syncs after each. The
@@ -21,12 +22,12 @@ pub fn publish<D: Device>(disk: &mut D, root: &Root) -> Result<(), RootFault>
         → D.blocks disk.new ≡ Some (published root.now all)) }
     ensures newest { OnOk result ((all : List (List ℕ)) (last : _) → D.blocks disk.old ≡ Some all
         → Follows all last root.now → newest (published root.now all) ≡ Some root.now) }
-    ensures settled { OnOk result (IsSettled D.blocks D.clock D.image disk.new) }
+    ensures settled { OnOk result (IsSettled D.Device disk.new) }
 
     // A stop at any moment leaves the last root or the new one, and so does an error.
     ensures any_moment { (all : List (List ℕ)) (last : _) → D.blocks disk.old ≡ Some all
-        → Follows all last root.now → RootsAreSafe D.clock D.image all last root.now disk.old disk.new
-        → LeavesOnly D.clock D.image disk.old disk.new (HasLastOrNew all last root.now) }
+        → Follows all last root.now → RootsAreSafe D.Device all last root.now disk.old disk.new
+        → LeavesOnly D.Device disk.old disk.new (HasLastOrNew all last root.now) }
     ensures halted { (all after : List (List ℕ)) (last : _) → D.blocks disk.old ≡ Some all
         → Follows all last root.now → D.blocks disk.new ≡ Some after
         → IsStale all last root.now ⊎ IsGateWhole all root.now after → HasLastOrNew all last root.now after }
@@ -34,9 +35,9 @@ pub fn publish<D: Device>(disk: &mut D, root: &Root) -> Result<(), RootFault>
     // Blocks outside the slot stay.
     ensures others { (all : List (List ℕ)) → D.blocks disk.old ≡ Some all
         → (after : List (List ℕ)) × (D.blocks disk.new ≡ Some after) × SameButSlot (slot_of root.now) all after }
-    ensures left { LeavesOnly D.clock D.image disk.old disk.new
-        (LeftButSlot (slot_of root.now) D.clock D.image disk.old) }
-    ensures past { KeepsPast D.tells D.clock D.image disk.old disk.new }
+    ensures left { LeavesOnly D.Device disk.old disk.new
+        (LeftButSlot D.Device (slot_of root.now) disk.old) }
+    ensures past { KeepsPast D.Device disk.old disk.new }
 
     // An error has its cause.
     ensures cause { IfErr result (λ e. HasFault e (D.faults disk.old) (D.faults disk.new)) }

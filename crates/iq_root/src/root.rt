@@ -1,5 +1,6 @@
 //! What a root says.
 use crate::Addresses;
+use iq_block_store::StoreFault;
 use std::error::Error;
 use std::fmt;
 
@@ -37,3 +38,17 @@ impl fmt::Display for RootFault {
 }
 
 impl Error for RootFault {}
+
+impl From<StoreFault> for RootFault {
+    ghost use Rattle.std.specs.Prelude.{◌≡◌};
+    ghost use Rattle.iq_root.specs.declared.root.RootFault.TheVariants as faults;
+
+    ghost from_gives = { λ fault e. e ≡ faults.StoreFault fault.before fault.after };
+
+    fn from(fault: StoreFault) -> RootFault {
+        RootFault::StoreFault {
+            before: fault.before,
+            after: fault.after,
+        }
+    }
+}

@@ -1,6 +1,6 @@
 -- The steps of one line, from where the session stands to where it stands next.
-use Rattle.std.proofs.Common.{◌≡◌, ◌≢◌, ℕ, zero, suc, ◌+◌, ◌<◌, length, get_or, append_assoc, add-one, drop-cons, arith, List, [], ◌∷◌, ◌++◌, refl, sym, ◌∙◌, ap, subst, Option, Some, None, ◌⊎◌, inl, inr, drop}
-use Rattle.iq_base.specs.declared.names.Name.{Name}
+use Rattle.std.proofs.Common.{◌≡◌, ◌≢◌, ℕ, zero, suc, ◌+◌, ◌<◌, length, get_or, append_assoc, add-one, drop-cons, arith, List, [], ◌∷◌, ◌++◌, refl, sym, ◌∙◌, ap, subst, Some, inl, inr, drop}
+use Rattle.iq_base.specs.Shorts.{Name}
 use Rattle.iq_base.specs.declared.refusals.Refusal.{Refusal}
 use Rattle.iq_base.specs.declared.refusals.Refusal.TheVariants as refusals
 use Rattle.iq_ast.specs.declared.statements.Statement.{Statement}
@@ -8,21 +8,19 @@ use Rattle.iq_ast.specs.declared.statements.Statement.TheVariants as statements
 use Rattle.iq_ast.specs.declared.statements.Write.{Write}
 use Rattle.iq_ast.specs.declared.statements.Write.TheVariants as writes
 use Rattle.iq_ast.specs.declared.statements.Select.{Select}
-use Rattle.iq_ast.specs.Built.{IsBuilt, IsBuiltWrite}
 use Rattle.iq_history.specs.declared.entries.Entry.{Entry}
 use Rattle.iq_history.specs.declared.entries.Entry.TheVariants as entries
 use Rattle.iq_model.specs.declared.scripts.Line.{Line}
 use Rattle.iq_model.specs.declared.scripts.Deed.{Deed}
 use Rattle.iq_model.specs.declared.scripts.Deed.TheVariants as deeds
 use Rattle.iq_model.specs.declared.replies.Reply.{Reply}
-use Rattle.iq_model.specs.declared.replies.Said.{Said}
 use Rattle.iq_model.specs.declared.replies.Said.TheVariants as said
 use Rattle.iq_model.specs.Tables.{Database}
 use Rattle.iq_model.specs.Scripts.{HasFewTuples}
 use Rattle.iq_model.specs.Statements.{Check, first_refusal, statement_checks, room_checks}
 use Rattle.iq_model.specs.State.{Stage, fresh, begun, locked, done, Work, Run, Standing, idle, lost, running, Desk, State, not_held, locks, database_of}
-use Rattle.iq_model.specs.History.{DeskIs, IsOnTables, IsOpen, IsRunning, IsPossible, entry_replies, begin_run, statement_said, takes_effect, line_takes, deed_takes}
-use Rattle.iq_plex.specs.Plex.{PlexState, state_of, replies_of, desk_of, IsAt, IsNext, CanBeginLine, CanLockLine, CanRefuseLine, HoldsLine, AsksBegin, AsksHeld, MayLock, MayRefuseAt, OfSeen, IsTableCause}
+use Rattle.iq_model.specs.History.{DeskIs, IsOnTables, IsOpen, IsRunning, IsPossible, entry_replies, begin_run, write_said, statement_said, takes_effect, line_takes, deed_takes}
+use Rattle.iq_plex.specs.Plex.{PlexState, state_of, replies_of, desk_of, IsAt, IsNext, CanBeginLine, CanLockLine, CanRefuseLine, HoldsLine, AsksBegin, AsksHeld, MayLock, MayRefuseAt, OfSeen, IsUnderWay, IsTableCause}
 use Rattle.iq_plex.proofs.Names.{not_held-none, not_held-self}
 use Rattle.iq_plex.proofs.Walking.{desk_at, at_begin, at_lock, at_done, at_refused, at_end, at_commit, with_names, with_effect, replies-commit, replies-end}
 use Rattle.std.proofs.lemmas.List.Elements.{All-push}
@@ -46,7 +44,7 @@ can_begin p n st tables u = desk_under p idle fresh n st AsksBegin u (tables, re
 pub begun_of : (p q : PlexState) (n c : ℕ) (st : Statement) → IsNextLine p n st → IsNext p (entries.Begin 0 n c) q → Runs q begun n st HoldsNone
 begun_of p q n c st u next = record {
   run = begin_run c (database_of (state_of p) c);
-  under = record { line = u.line; rest = u.rest; at = at_begin p q n c idle fresh (u.line ∷ u.rest) next u.at; number_is = u.number_is; deed_is = u.deed_is; built = u.built; few = u.few };
+  under = record { line = u.line; rest = u.rest; at = at_begin p q n c idle fresh (u.line ∷ u.rest) next u.at; number_is = u.number_is; deed_is = u.deed_is; built = u.built; meaning = u.meaning; few = u.few };
   holds = refl;
 }
 
@@ -93,6 +91,10 @@ can_refuse_locked p n st cause P r (inr found) = desk_under p (running r.run) lo
 pub seen_of : (p : PlexState) (n : ℕ) (st : Statement) (stage : Stage) (P : Run → Type 0) (r : Runs p stage n st P) (Q : Database → Type 0) → OfSeen p Q → Q r.run.now.seen
 seen_of p n st stage P r Q told = told r.run stage (r.under.line ∷ r.under.rest) r.under.at
 
+-- the line under way of a transaction that runs
+pub under_way : (p : PlexState) (n : ℕ) (st : Statement) (stage : Stage) (P : Run → Type 0) → Runs p stage n st P → IsUnderWay p st
+under_way p n st stage P r = record { run = r.run; stage = stage; line = r.under.line; rest = r.under.rest; at = r.under.at; deed_is = r.under.deed_is }
+
 -- LOCK
 
 pub locked_of : (p q : PlexState) (n : ℕ) (st : Statement) (names : List Name) → Runs p begun n st (MayHold st) → IsNext p (entries.Lock 0 n names) q → names ≡ locks st → Runs q locked n st (HoldsNames st)
@@ -105,9 +107,10 @@ locked_of p q n st names r next is = record {
     number_is = r.under.number_is;
     deed_is = r.under.deed_is;
     built = r.under.built;
+    meaning = r.under.meaning;
     few = r.under.few;
   };
-  holds = ap (λ held. held ++ names) r.holds.0 ∙ is;
+  holds = (ap (λ held. held ++ names) r.holds.0 ∙ is, r.holds.1);
 }
 
 -- DONE
@@ -138,10 +141,22 @@ done_of p q n write r next = record {
     number_is = r.under.number_is;
     deed_is = r.under.deed_is;
     built = r.under.built;
+    meaning = r.under.meaning;
     few = r.under.few;
   };
-  holds = λ none. some_names write (sym (held_after r.under.line r.under.rest (statements.Write write) r.run.now r.under.deed_is ∙ r.holds) ∙ none);
+  holds = λ none. some_names write (sym (held_after r.under.line r.under.rest (statements.Write write) r.run.now r.under.deed_is ∙ r.holds.0) ∙ none);
 }
+
+-- what a write is answered names no place
+pub write_placed : (write : Write) (c : Option ℕ) → IsPlacedSaid 1 1 (write_said write c)
+write_placed (writes.CreateTable name schema) c = (tt, tt)
+write_placed (writes.DropTable name) c = (tt, tt)
+write_placed (writes.CreateIndex name kind table column second) c = (tt, tt)
+write_placed (writes.DropIndex table name) c = (tt, tt)
+write_placed (writes.Insert table rows) c = (tt, tt)
+write_placed (writes.Load table rows text) c = (tt, tt)
+write_placed (writes.Delete table cond) c = (tt, tt)
+write_placed (writes.Update table changes cond) c = (tt, tt)
 
 -- A QUERY
 

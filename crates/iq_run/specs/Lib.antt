@@ -1,4 +1,5 @@
 pub mod Lines
+pub mod Streams
 pub mod Words
 pub mod Reports
 pub mod Runs

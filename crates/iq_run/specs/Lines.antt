@@ -1,16 +1,16 @@
 -- What running one line does to the shared state.
-use Rattle.std.specs.Prelude.{◌≡◌, ◌≢◌, ℕ, List, [], ◌∷◌, ◌++◌, None}
+use Rattle.std.specs.Prelude.{◌≡◌, ℕ, List, [], ◌∷◌, ◌++◌, None}
 use Rattle.iq_ast.specs.declared.statements.Statement.{Statement}
 use Rattle.iq_ast.specs.Built.{IsBuilt}
 use Rattle.iq_model.specs.declared.scripts.Line.{Line}
 use Rattle.iq_model.specs.declared.scripts.Deed.TheVariants as deeds
 use Rattle.iq_model.specs.declared.replies.Reply.{Reply}
 use Rattle.iq_model.specs.Scripts.{HasFewTuples}
-use Rattle.iq_model.specs.Statements.{first_refusal, statement_checks}
+use Rattle.iq_model.specs.Statements.{first_refusal, statement_checks, HasMeaning}
 use Rattle.iq_model.specs.State.{Stage, fresh, Run, Standing, idle, running, locks}
 use Rattle.iq_plex.specs.Plex.{PlexState, replies_of, IsAt}
 
--- the first line that is left is this statement of the grammar, and the session stands so
+-- the first line that is left is this statement of the grammar, which has a meaning, and the session stands so
 pub record IsUnder (p : PlexState) (standing : Standing) (stage : Stage) (number : ℕ) (st : Statement) : Type 0 where
   pub line : Line
   pub rest : List Line
@@ -18,6 +18,7 @@ pub record IsUnder (p : PlexState) (standing : Standing) (stage : Stage) (number
   pub number_is : line.number ≡ number
   pub deed_is : line.deed ≡ deeds.Statement st
   pub built : IsBuilt st
+  pub meaning : HasMeaning st
   pub few : HasFewTuples st
 
 -- the line is the next, and no entry of it is there
@@ -38,9 +39,9 @@ HoldsNone run = run.now.held ≡ []
 abbrev pub MayHold : Statement → Run → Type 0
 MayHold st run = (run.now.held ≡ []) × (first_refusal (statement_checks st run.now.seen) ≡ None)
 
--- a transaction that holds the names of its statement
+-- a transaction that holds the names of its statement, where nothing refuses what the statement names and holds
 abbrev pub HoldsNames : Statement → Run → Type 0
-HoldsNames st run = run.now.held ≡ locks st
+HoldsNames st run = (run.now.held ≡ locks st) × (first_refusal (statement_checks st run.now.seen) ≡ None)
 
 -- the line has ended: the session is about to run those after it, and its reply is the last one
 pub record EndsLine (old : PlexState) (reply : Reply) (new : PlexState) : Type 0 where

@@ -1,5 +1,5 @@
 -- What a run of a script writes.
-use Rattle.std.specs.Prelude.{◌≡◌, ℕ, List, [], ◌∷◌, ◌++◌, Option, Some, All}
+use Rattle.std.specs.Prelude.{◌≡◌, ℕ, List, [], ◌++◌, All}
 use Rattle.iq_base.specs.declared.refusals.Census.{Census}
 use Rattle.iq_history.specs.State.{HistoryState}
 use Rattle.iq_history.specs.declared.entries.Entry.{Entry}
@@ -15,6 +15,7 @@ use Rattle.iq_outside.specs.Whole.{GrowsByFront}
 use Rattle.iq_render.specs.Placed.{IsPlacedSaid}
 use Rattle.iq_render.specs.Whole.{transcript_text}
 use Rattle.iq_plex.specs.Plex.{PlexState, replies_of, IsAt, names_of_nodes, names_of_sessions}
+use Rattle.iq_run.specs.Streams.{Output, IsUnwritten}
 use Rattle.iq_run.specs.declared.ends.EndCause.{EndCause}
 use Rattle.iq_run.specs.declared.ends.EndCause.TheVariants as ends
 
@@ -36,25 +37,29 @@ pub record IsTranscript (script : Script) (bytes : List ℕ) : Type 0 where
   pub whole : IsWhole script [] entries
   pub bytes_are : bytes ≡ printed script [] entries
 
--- the transcript was written whole
-pub record WroteTranscript (script : Script) (old new : Option (List ℕ)) : Type 0 where
+-- the transcript was written whole, and no write failed
+pub record WroteTranscript (script : Script) (o : Output) : Type 0 where
   pub bytes : List ℕ
   pub transcript : IsTranscript script bytes
-  pub wrote : Grows bytes old new
+  pub wrote : Grows bytes o.written o.written_now
+  pub calm : o.last ≡ o.first
 
--- a front of it was written, and the sink's count of faults rose so
-pub record WroteFront (script : Script) (old new : Option (List ℕ)) (first before after last : ℕ) : Type 0 where
+-- a front of it was written, but not all, and the sink's count of faults rose so
+pub record WroteFront (script : Script) (o : Output) (before after : ℕ) : Type 0 where
   pub bytes : List ℕ
   pub transcript : IsTranscript script bytes
-  pub wrote : GrowsByFront bytes old new
-  pub rose : RoseWithin first before after last
+  pub wrote : GrowsByFront bytes o.written o.written_now
+  pub rose : RoseWithin o.first before after o.last
 
 -- how a run of a script ends: its transcript is written, or a front of it at a fault of the sink, or nothing for want of memory
-abbrev pub EndsRun : Script → Option (List ℕ) → Option (List ℕ) → ℕ → ℕ → EndCause → Type 0
-EndsRun script old new first last ends.Done = WroteTranscript script old new
-EndsRun script old new first last (ends.OutFault before after) = WroteFront script old new first before after last
-EndsRun script old new first last ends.NoMemory = new ≡ old
-EndsRun script old new first last _ = ⊥
+abbrev pub EndsRun : Script → Output → EndCause → Type 0
+EndsRun script o ends.Done = WroteTranscript script o
+EndsRun script o ends.Usage = ⊥
+EndsRun script o (ends.ScriptFault line cause) = ⊥
+EndsRun script o (ends.ReadFault before after) = ⊥
+EndsRun script o (ends.OutFault before after) = WroteFront script o before after
+EndsRun script o ends.NoMemory = IsUnwritten o
+EndsRun script o ends.TooLong = ⊥
 
 -- some lines were run: those behind them are left, and their replies came last
 pub record RunsLines (old : PlexState) (left : List Line) (rs : List Reply) (new : PlexState) : Type 0 where

@@ -1,6 +1,9 @@
 //! How a run ends.
+ghost use Rattle.std.specs.Prelude.{◌≡◌};
+ghost use Rattle.iq_run.specs.Reports.{end_of};
+
 use iq_outside::Device;
-use iq_script::LineFault;
+use iq_script::{LineFault, ScriptRefusal};
 
 /// Why a run ended, with the numbers that show it.
 #[derive(Clone, Copy, Debug, PartialEq, Eq)]
@@ -9,16 +12,27 @@ pub enum EndCause {
     Done,
     /// The words aren't of the grammar.
     Usage,
-    /// The first line that is outside the grammar, counted from 1.
+    /// The first faulty line, counted from 1, and what is wrong with it.
     ScriptFault { line: u32, cause: LineFault },
     /// The script's source failed: its count of faults rose from the one number to the other.
     ReadFault { before: u64, after: u64 },
-    /// The output, or standard error, failed: its count of faults rose so.
+    /// The output failed: its count of faults rose so. Where standard error fails the status is this one's, without a cause.
     OutFault { before: u64, after: u64 },
     /// An allocation was refused.
     NoMemory,
     /// More than 16,777,216 bytes of script came.
     TooLong,
+}
+
+impl From<ScriptRefusal> for EndCause {
+    ghost from_gives = { λ refusal e. e ≡ end_of refusal };
+
+    fn from(refusal: ScriptRefusal) -> EndCause {
+        match refusal {
+            ScriptRefusal::ScriptFault { line, cause } => EndCause::ScriptFault { line, cause },
+            ScriptRefusal::NoMemory => EndCause::NoMemory,
+        }
+    }
 }
 
 impl EndCause {

@@ -7,12 +7,8 @@
 
 mod ends;
 mod lines;
-#[cfg(test)]
-mod plain_tests;
 mod reports;
 mod runs;
-#[cfg(test)]
-mod tests;
 mod top;
 mod words;
 

@@ -1,17 +1,15 @@
 //! One line of a script.
 ghost use Rattle.std.specs.Prelude.{◌≡◌, ◌≢◌, [], Some, None};
-ghost use Rattle.iq_base.specs.declared.answers.Answer.TheVariants as answers;
+ghost use Rattle.iq_model.specs.declared.answers.Answer.TheVariants as answers;
 ghost use Rattle.iq_ast.specs.declared.statements.Statement.TheVariants as statements;
-ghost use Rattle.iq_model.specs.Scripts.{HasFewTuples};
 ghost use Rattle.iq_model.specs.State.{begun, locked, done};
-ghost use Rattle.iq_model.specs.History.{write_said};
 ghost use Rattle.iq_plex.specs.Plex.{state_of, CanRefuseLine};
 ghost use Rattle.iq_render.specs.Placed.{IsPlacedSaid};
 ghost use Rattle.iq_run.specs.Lines.{IsNextLine, Runs, HoldsNone, MayHold, HoldsNames, EndsLine};
 
 use iq_ast::{Select, Write};
-use iq_base::{Answer, Refusal};
-use iq_model::{Reply, Said, names_of};
+use iq_base::Refusal;
+use iq_model::{Answer, Reply, Said, names_of, write_said};
 use iq_plex::Plex;
 use std::alloc::Global;
 
@@ -50,7 +48,7 @@ fn commit(plex: &mut Plex, line: u32, write: &Write) -> Reply
     let number = plex.commit(0, line);
     Reply {
         line,
-        said: written(write, Some(number)),
+        said: write_said(write, Some(number)),
     }
 }
 
@@ -83,33 +81,5 @@ fn refuse(plex: &mut Plex, line: u32, cause: Refusal) -> Reply
     Reply {
         line,
         said: Said::Refused(cause),
-    }
-}
-
-/// What a write that took effect is answered.
-fn written(write: &Write, commit: Option<u64>) -> Said
-    requires { HasFewTuples (statements.Write write.now) }
-    ensures said { result ≡ write_said write.now commit }
-    ensures placed { IsPlacedSaid 1 1 result }
-{
-    match write {
-        Write::CreateTable { .. } => Said::Created { commit },
-        Write::DropTable { .. } => Said::Dropped { commit },
-        Write::CreateIndex { .. } => Said::Created { commit },
-        Write::DropIndex { .. } => Said::Dropped { commit },
-        Write::Insert { table: _, rows } => Said::Inserted {
-            rows: rows.len() as u32,
-            commit,
-        },
-        Write::Load {
-            table: _,
-            rows,
-            text: _,
-        } => Said::Inserted {
-            rows: *rows,
-            commit,
-        },
-        Write::Delete { .. } => Said::Deleted { rows: 0, commit },
-        Write::Update { .. } => Said::Updated { rows: 0, commit },
     }
 }

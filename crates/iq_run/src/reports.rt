@@ -3,6 +3,7 @@ ghost use Rattle.std.specs.Prelude.{◌≡◌, ◌≤◌, ◌+◌, ◌++◌, cod
 ghost use Rattle.std.specs.Fmt.{decimal};
 ghost use Rattle.arrayvec.specs.ArrayString.{array_string_len};
 ghost use Rattle.iq_run.specs.Reports.{report_text, IsReported};
+ghost use Rattle.iq_run.specs.Streams.{output};
 
 use crate::ends::EndCause;
 use arrayvec::ArrayString;
@@ -16,7 +17,7 @@ type Line = ArrayString<160>;
 /// Writes the line of an end to standard error, and answers the status: that of the end, or, where the line couldn't be
 /// written, that of a failed output.
 pub fn report<E: Sink>(err: &mut E, met: &EndCause) -> u8
-    ensures { IsReported met.now result (E.written err.old) (E.written err.new) (E.faults err.old) (E.faults err.new) }
+    ensures { IsReported met.now result (output E.Sink err.old err.new) }
 {
     let line = line_of(met);
     match write_all(err, line.as_str().as_bytes()) {
@@ -57,9 +58,9 @@ fn fault_line(number: u32, cause: LineFault) -> Line
 {
     let mut line = text("iqmux: line ");
     push_number(&mut line, u64::from(number));
-    match cause {
-        LineFault::Unbuilt => line.push_str(" Unbuilt\n"),
-    }
+    line.push_str(" ");
+    line.push_str(cause.name());
+    line.push_str("\n");
     line
 }
 

@@ -7,6 +7,7 @@ ghost use Rattle.iq_model.specs.State.{idle, fresh};
 ghost use Rattle.iq_render.specs.Placed.{IsPlacedSaid};
 ghost use Rattle.iq_plex.specs.Plex.{IsAt};
 ghost use Rattle.iq_run.specs.Lines.{IsNext, EndsLine};
+ghost use Rattle.iq_run.specs.Streams.{output};
 ghost use Rattle.iq_run.specs.Runs.{IsTranscript, EndsRun, RunsLines, no_blocks};
 
 use crate::ends::{EndCause, Ran, Rest};
@@ -29,7 +30,7 @@ pub fn step_run<R: Threads + Sync, O: Sink, D: Device>(
     out: &mut O,
 ) -> Ran<D>
     requires { IsRunnable script.now }
-    ensures ran { EndsRun script.now (O.written out.old) (O.written out.new) (O.faults out.old) (O.faults out.new) result.cause }
+    ensures ran { EndsRun script.now (output O.Sink out.old out.new) result.cause }
     ensures device { result.rest ≡ Rest.Disk disk }
 {
     let _ = rt;
@@ -40,9 +41,9 @@ pub fn step_run<R: Threads + Sync, O: Sink, D: Device>(
 }
 
 /// Runs a script and writes its transcript.
-fn run_script<O: Sink>(alloc: Global, script: &Script, out: &mut O) -> EndCause
+pub(crate) fn run_script<O: Sink>(alloc: Global, script: &Script, out: &mut O) -> EndCause
     requires { IsRunnable script.now }
-    ensures { EndsRun script.now (O.written out.old) (O.written out.new) (O.faults out.old) (O.faults out.new) result }
+    ensures { EndsRun script.now (output O.Sink out.old out.new) result }
 {
     match transcript_of(alloc, script) {
         Err(NoMemory) => EndCause::NoMemory,
@@ -78,11 +79,7 @@ fn no_blocks() -> Census
 }
 
 /// Runs lines in their order. The room for their replies is taken first.
-pub(crate) fn run_lines(
-    alloc: Global,
-    plex: &mut Plex,
-    lines: &[Line],
-) -> Result<Vec<Reply>, NoMemory>
+fn run_lines(alloc: Global, plex: &mut Plex, lines: &[Line]) -> Result<Vec<Reply>, NoMemory>
     requires at { IsAt plex.old idle fresh lines.now }
     requires runnable { AllByRecursion IsRunnableLine lines.now }
     ensures { IfOk result (λ rs. RunsLines plex.old [] rs.items plex.new) }

@@ -1,24 +1,24 @@
 //! The call that the program is.
-ghost use Rattle.std.specs.Prelude.{◌≡◌, map, string_bytes, IfOk, IfErr, Option};
+ghost use Rattle.std.specs.Prelude.{◌≡◌, map, string_bytes, IfOk, IfErr, OnOk};
 ghost use Rattle.iq_model.specs.Scripts.{IsRunnable};
-ghost use Rattle.iq_run.specs.Ends.{Streams, HasEnded, IsComplete, IsMet, IsScriptFrom, IsUnread};
+ghost use Rattle.iq_run.specs.Streams.{input, output, IsReadWhole};
+ghost use Rattle.iq_run.specs.Ends.{HasEnded, HasRead, IsComplete, IsMet, IsReadUpTo, IsScriptFrom, IsUnread};
+ghost use Rattle.iq_script.specs.declared.scripts.TheConstants.{MOST_BYTES};
 
 use crate::ends::{EndCause, Ended, Ran, Rest};
 use crate::reports::report;
-use crate::runs::step_run;
+use crate::runs::run_script;
 use crate::words::{Command, WordFault, read_words};
 use iq_model::Script;
 use iq_outside::{Device, Gate, ReadFault, Sink, Source, read_whole};
-use iq_script::{ScriptRefusal, read_script};
+use iq_script::{MOST_BYTES, read_script};
 use std::alloc::Global;
 use std::sync::Wait;
 use std::thread::Threads;
 
-/// The longest script, in bytes.
-const MOST_BYTES: usize = 16_777_216;
-
 /// Runs the program on the words behind its name: reads the script, runs it, and writes the transcript to `out`, and to `err`
-/// a line for an end other than success. It promises its return in no mode, since one body serves all modes.
+/// a line for an end other than success. Of the script it takes at most 16,777,217 bytes. It promises its return in no mode,
+/// since one body serves all modes.
 pub fn multiplex<
     R: Threads + Wait + Sync,
     I: Source,
@@ -36,79 +36,43 @@ pub fn multiplex<
     disk: D,
     gate: &G,
 ) -> Ended<D>
-    ensures ended { HasEnded (map string_bytes words.now)
-        (record {
-          left = I.left script.old;
-          source_first = I.faults script.old;
-          source_last = I.faults script.new;
-          written = O.written out.old;
-          written_now = O.written out.new;
-          sink_first = O.faults out.old;
-          sink_last = O.faults out.new;
-        })
-        result.status (E.written err.old) (E.written err.new) (E.faults err.old) (E.faults err.new) }
-    ensures complete { IsComplete (map string_bytes words.now)
-        (record {
-          left = I.left script.old;
-          source_first = I.faults script.old;
-          source_last = I.faults script.new;
-          written = O.written out.old;
-          written_now = O.written out.new;
-          sink_first = O.faults out.old;
-          sink_last = O.faults out.new;
-        })
-        result.status (E.faults err.old) (E.faults err.new) }
+    ensures ended { HasEnded (map string_bytes words.now) result.status
+        (input I.Source script.old script.new)
+        (output O.Sink out.old out.new)
+        (output E.Sink err.old err.new) }
+    ensures complete { IsComplete (map string_bytes words.now) result.status
+        (input I.Source script.old script.new)
+        (output O.Sink out.old out.new)
+        (output E.Sink err.old err.new) }
     ensures device { result.rest ≡ Rest.Disk disk }
 {
+    let _ = rt;
     let _ = gate;
-    let ran = run_words(rt, alloc, words, script, out, disk);
-    let Ran { cause, rest } = ran;
+    let cause = run_words(alloc, words, script, out);
     Ended {
         status: report(err, &cause),
-        rest,
+        rest: Rest::Disk(disk),
     }
 }
 
 /// Does what the words ask for.
-fn run_words<R: Threads + Sync, I: Source, O: Sink, D: Device>(
-    rt: &R,
+fn run_words<I: Source, O: Sink>(
     alloc: Global,
     words: &[String],
     script: &mut I,
     out: &mut O,
-    disk: D,
-) -> Ran<D>
+) -> EndCause
     ensures met { IsMet (map string_bytes words.now)
-        (record {
-          left = I.left script.old;
-          source_first = I.faults script.old;
-          source_last = I.faults script.new;
-          written = O.written out.old;
-          written_now = O.written out.new;
-          sink_first = O.faults out.old;
-          sink_last = O.faults out.new;
-        })
-        result.cause }
-    ensures device { result.rest ≡ Rest.Disk disk }
+        (input I.Source script.old script.new) (output O.Sink out.old out.new) result }
+    ensures read { HasRead result (input I.Source script.old script.new) }
 {
     match read_words(words) {
-        Err(WordFault::Usage) => ended(EndCause::Usage, disk),
-        Err(WordFault::NoMemory) => ended(EndCause::NoMemory, disk),
+        Err(WordFault::Usage) => EndCause::Usage,
+        Err(WordFault::NoMemory) => EndCause::NoMemory,
         Ok(Command::Step) => match script_of(alloc, script) {
-            Err(cause) => ended(cause, disk),
-            Ok(script) => step_run(rt, alloc, &script, disk, out),
+            Err(cause) => cause,
+            Ok(script) => run_script(alloc, &script, out),
         },
-    }
-}
-
-/// An end that leaves the device as it was.
-fn ended<D: Device>(cause: EndCause, disk: D) -> Ran<D>
-    ensures cause { result.cause ≡ cause }
-    ensures device { result.rest ≡ Rest.Disk disk }
-{
-    Ran {
-        cause,
-        rest: Rest::Disk(disk),
     }
 }
 
@@ -116,19 +80,15 @@ fn ended<D: Device>(cause: EndCause, disk: D) -> Ran<D>
 fn script_of<I: Source>(alloc: Global, source: &mut I) -> Result<Script, EndCause>
     ensures ok { IfOk result (IsScriptFrom (I.left source.old)) }
     ensures runnable { IfOk result IsRunnable }
-    ensures err { IfErr result (IsUnread (I.left source.old) (I.faults source.old) (I.faults source.new)) }
+    ensures whole { OnOk result (IsReadWhole (input I.Source source.old source.new)) }
+    ensures up_to { OnOk result (IsReadUpTo MOST_BYTES (input I.Source source.old source.new)) }
+    ensures err { IfErr result (IsUnread (input I.Source source.old source.new)) }
+    ensures read { IfErr result (λ e. HasRead e (input I.Source source.old source.new)) }
 {
     match read_whole(alloc, source, MOST_BYTES) {
         Err(ReadFault::Fault { before, after }) => Err(EndCause::ReadFault { before, after }),
         Err(ReadFault::TooLong) => Err(EndCause::TooLong),
         Err(ReadFault::NoMemory) => Err(EndCause::NoMemory),
-        Ok(bytes) => match read_script(alloc, bytes.as_slice()) {
-            Err(ScriptRefusal::ScriptFault { line, cause }) => Err(EndCause::ScriptFault {
-                line,
-                cause,
-            }),
-            Err(ScriptRefusal::NoMemory) => Err(EndCause::NoMemory),
-            Ok(script) => Ok(script),
-        },
+        Ok(bytes) => Ok(read_script(alloc, bytes.as_slice())?),
     }
 }

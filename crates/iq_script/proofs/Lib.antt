@@ -1,3 +1,4 @@
 mod Tuples
+mod Meaning
 pub mod LineLaws
 pub mod ScriptLaws

@@ -9,15 +9,18 @@ use Rattle.iq_model.specs.declared.scripts.Deed.{Deed}
 use Rattle.iq_model.specs.declared.scripts.Deed.TheVariants.{Statement, Step}
 use Rattle.iq_model.specs.declared.scripts.Line.{Line}
 use Rattle.iq_model.specs.declared.scripts.Script.{Script}
-use Rattle.iq_model.specs.Scripts.{the_session, IsBuiltDeed, IsRunnableLine, Ascend, IsRunnable, HasFewDeedTuples}
+use Rattle.iq_model.specs.Scripts.{the_session, IsBuiltDeed, IsRunnableLine, Ascend, IsRunnable, HasFewDeedTuples, HasDeedMeaning}
 use Rattle.iq_script.proofs.Tuples.{few_tuples}
+use Rattle.iq_script.proofs.Meaning.{statement_means}
 use Rattle.iq_parse.specs.Grammar.{IsStatementOf, IsOff}
 use Rattle.iq_parse.proofs.Steps.{some_is}
 use Rattle.iq_parse.proofs.StatementLaws.{read_only}
+use Rattle.iq_script.specs.declared.faults.LineFault.{LineFault}
+use Rattle.iq_script.specs.declared.faults.LineFault.TheVariants.{Unbuilt}
 use Rattle.iq_script.specs.declared.faults.ScriptRefusal.{ScriptRefusal}
 use Rattle.iq_script.specs.declared.faults.ScriptRefusal.TheVariants.{ScriptFault, NoMemory}
 use Rattle.iq_script.specs.Lines.{Numbered, line_of, pieces_of, without_cr, numbered, is_doing, doing_lines}
-use Rattle.iq_script.specs.Scripts.{IsDeedOf, IsLineOf, IsScriptOf, IsOfGrammar, IsFirstFault, IsCause, IsPut, Takes, IsRefused, IsLineCause}
+use Rattle.iq_script.specs.Scripts.{IsDeedOf, IsLineOf, IsScriptOf, HasStatement, IsFault, IsFirstFault, IsCause, IsPut, IsPutIfDoing, IsRefused, IsLineCause}
 
 -- the lines that do something among pieces that are numbered from n
 abbrev pub doing_from : ℕ → List (List ℕ) → List Numbered
@@ -49,7 +52,7 @@ deed_good : (text : List ℕ) (deed : Deed) → IsDeedOf text deed → (s : TheS
 deed_good text (Statement s) h = (s, h)
 deed_good text (Step step) h = absurd h
 
-zip_good : (ds : List Numbered) (lines : List Line) → AllZip IsLineOf ds lines → AllByRecursion IsOfGrammar ds
+zip_good : (ds : List Numbered) (lines : List Line) → AllZip IsLineOf ds lines → AllByRecursion HasStatement ds
 zip_good [] [] h = tt
 zip_good [] (l ∷ ls) h = absurd h
 zip_good (d ∷ ds) [] h = absurd h
@@ -59,6 +62,10 @@ deed_built : (text : List ℕ) (deed : Deed) → IsDeedOf text deed → IsBuiltD
 deed_built text (Statement s) h = h.spells.built
 deed_built text (Step step) h = absurd h
 
+deed_means : (text : List ℕ) (deed : Deed) → IsDeedOf text deed → HasDeedMeaning deed
+deed_means text (Statement s) h = statement_means s h.spells.built
+deed_means text (Step step) h = absurd h
+
 deed_few : (text : List ℕ) (deed : Deed) → IsDeedOf text deed → HasFewDeedTuples deed
 deed_few text (Statement s) h = few_tuples text s h
 deed_few text (Step step) h = absurd h
@@ -67,7 +74,7 @@ zip_runnable : (ds : List Numbered) (lines : List Line) → AllZip IsLineOf ds l
 zip_runnable [] [] h = tt
 zip_runnable [] (l ∷ ls) h = absurd h
 zip_runnable (d ∷ ds) [] h = absurd h
-zip_runnable (d ∷ ds) (l ∷ ls) h = (record { session = h.0.session; deed = deed_built d.text l.deed h.0.deed; tuples = deed_few d.text l.deed h.0.deed }, zip_runnable ds ls h.1)
+zip_runnable (d ∷ ds) (l ∷ ls) h = (record { session = h.0.session; deed = deed_built d.text l.deed h.0.deed; meaning = deed_means d.text l.deed h.0.deed; tuples = deed_few d.text l.deed h.0.deed }, zip_runnable ds ls h.1)
 
 -- ---- one turn of the loop
 
@@ -105,13 +112,17 @@ turn bytes rest behind piece number old new true h cut less is so_far =
     }
 
 pub goes_on : (bytes rest behind piece text : List ℕ) (number : ℕ) (old new : List Line) → text ≡ without_cr piece → pieces_of rest ≡ piece ∷ pieces_of behind
-    → length behind < length rest → Takes (line_of (number + 1) text) old new → IsSoFar bytes rest number old → IsSoFar bytes behind (number + 1) new
+    → length behind < length rest → IsPutIfDoing (line_of (number + 1) text) old new → IsSoFar bytes rest number old → IsSoFar bytes behind (number + 1) new
 goes_on bytes rest behind piece text number old new e cut less is so_far =
-    turn bytes rest behind piece number old new (is_doing (without_cr piece)) refl cut less (subst (λ (t : List ℕ). Takes (line_of (number + 1) t) old new) e is) so_far
+    turn bytes rest behind piece number old new (is_doing (without_cr piece)) refl cut less (subst (λ (t : List ℕ). IsPutIfDoing (line_of (number + 1) t) old new) e is) so_far
 
-fault_is : (bytes rest behind piece : List ℕ) (number : ℕ) (old : List Line) → pieces_of rest ≡ piece ∷ pieces_of behind
-    → IsRefused (line_of (number + 1) (without_cr piece)) old → IsSoFar bytes rest number old → IsFirstFault bytes (number + 1)
-fault_is bytes rest behind piece number old cut is so_far =
+-- a fault is one behind as many lines
+fault_behind : (cause : LineFault) (n m : ℕ) (text : List ℕ) → m ≡ n → IsFault cause n text → IsFault cause m text
+fault_behind Unbuilt n m text same = ⊎_elim (λ (e : n ≡ 64). inl (same ∙ e)) (λ (off : IsOff text). inr off)
+
+fault_is : (bytes rest behind piece : List ℕ) (number : ℕ) (old : List Line) (cause : LineFault) → pieces_of rest ≡ piece ∷ pieces_of behind
+    → IsRefused (line_of (number + 1) (without_cr piece)) old cause → IsSoFar bytes rest number old → IsFirstFault bytes (number + 1) cause
+fault_is bytes rest behind piece number old cause cut is so_far =
     let long = zip_length so_far.before old so_far.each in
     record {
       before = so_far.before;
@@ -120,15 +131,15 @@ fault_is bytes rest behind piece number old cut is so_far =
       place = so_far.place ∙ ap (λ (ls : List Numbered). so_far.before ++ ls) (first_doing rest behind piece (number + 1) cut is.doing);
       good = zip_good so_far.before old so_far.each;
       few = omega (arith, so_far.few, long);
-      fault = ⊎_elim (λ (e : length old ≡ 64). inl (long ∙ e)) (λ (off : IsOff (without_cr piece)). inr off) is.fault;
+      fault = fault_behind cause (length old) (length so_far.before) (without_cr piece) long is.fault;
     }
 
 pub refused : (bytes rest behind piece text : List ℕ) (number : ℕ) (old : List Line) (e : ScriptRefusal) → text ≡ without_cr piece → pieces_of rest ≡ piece ∷ pieces_of behind
     → IsLineCause (line_of (number + 1) text) old e → IsSoFar bytes rest number old → IsCause bytes e
 refused bytes rest behind piece text number old NoMemory is cut h so_far = tt
 refused bytes rest behind piece text number old (ScriptFault line cause) is cut h so_far =
-    let there : IsRefused (line_of (number + 1) (without_cr piece)) old = subst (λ (t : List ℕ). IsRefused (line_of (number + 1) t) old) is h.0 in
-    (subst (IsFirstFault bytes) (sym h.1) (fault_is bytes rest behind piece number old cut there so_far), h.2)
+    let there : IsRefused (line_of (number + 1) (without_cr piece)) old cause = subst (λ (t : List ℕ). IsRefused (line_of (number + 1) t) old cause) is h.0 in
+    subst (λ (n : ℕ). IsFirstFault bytes n cause) (sym h.1) (fault_is bytes rest behind piece number old cause cut there so_far)
 
 -- ---- the whole script
 
@@ -193,20 +204,24 @@ one_script bytes a b h k =
     λ i. record { nodes = nodes i; sessions = sessions i; lines = lines i }
 
 -- the line behind some that do something spells a statement, and so there are more lines than those
-zip_at : (before behind : List Numbered) (d : Numbered) (lines : List Line) → AllZip IsLineOf (before ++ d ∷ behind) lines → IsOfGrammar d × (length before < length lines)
+zip_at : (before behind : List Numbered) (d : Numbered) (lines : List Line) → AllZip IsLineOf (before ++ d ∷ behind) lines → HasStatement d × (length before < length lines)
 zip_at [] behind d [] h = absurd h
 zip_at [] behind d (l ∷ ls) h = (deed_good d.text l.deed h.0.deed, omega arith)
 zip_at (b ∷ bs) behind d [] h = absurd h
 zip_at (b ∷ bs) behind d (l ∷ ls) h = let more = zip_at bs behind d ls h.1 in (more.0, omega (arith, more.1))
 
-pub script_or_fault : (bytes : List ℕ) (script : Script) (number : ℕ) → IsScriptOf bytes script → IsFirstFault bytes number → ⊥
-script_or_fault bytes script number is fault =
+-- a line of a script isn't faulty
+not_faulty : (cause : LineFault) (n : ℕ) (text : List ℕ) (s : TheStatement) → n < 64 → IsStatementOf text s → IsFault cause n text → ⊥
+not_faulty Unbuilt n text s few is = ⊎_elim (λ (e : n ≡ 64). absurd (omega arith)) (λ (off : IsOff text). off s is)
+
+pub script_or_fault : (bytes : List ℕ) (script : Script) (number : ℕ) (cause : LineFault) → IsScriptOf bytes script → IsFirstFault bytes number cause → ⊥
+script_or_fault bytes script number cause is fault =
     let zip = subst (λ (ds : List Numbered). AllZip IsLineOf ds script.lines) fault.place is.lines.each in
     let more = zip_at fault.before fault.behind (line_of number fault.text) script.lines zip in
-    ⊎_elim (λ (e : length fault.before ≡ 64). absurd (omega (arith, more.1, is.lines.few))) (λ (off : IsOff fault.text). off more.0.0 more.0.1) fault.fault
+    not_faulty cause (length fault.before) fault.text more.0.0 (omega (arith, more.1, is.lines.few)) more.0.1 fault.fault
 
 -- of two lines of one list, each with good ones before it and at fault itself, neither stands before the other
-same_place : (xs ys us vs : List Numbered) (d e : Numbered) (k : ℕ) → xs ++ d ∷ us ≡ ys ++ e ∷ vs → AllByRecursion IsOfGrammar xs → AllByRecursion IsOfGrammar ys
+same_place : (xs ys us vs : List Numbered) (d e : Numbered) (k : ℕ) → xs ++ d ∷ us ≡ ys ++ e ∷ vs → AllByRecursion HasStatement xs → AllByRecursion HasStatement ys
     → length xs + k ≤ 64 → length ys + k ≤ 64 → (length xs + k ≡ 64) ⊎ IsOff d.text → (length ys + k ≡ 64) ⊎ IsOff e.text → d ≡ e
 same_place [] [] us vs d e k same good also few less h g = cc
 same_place [] (y ∷ ys) us vs d e k same good also few less h g =
@@ -221,10 +236,15 @@ same_place (x ∷ xs) (y ∷ ys) us vs d e k same good also few less h g =
     (⊎_elim (λ (full : length (x ∷ xs) + k ≡ 64). inl (omega arith)) (λ (off : IsOff d.text). inr off) h)
     (⊎_elim (λ (full : length (y ∷ ys) + k ≡ 64). inl (omega arith)) (λ (off : IsOff e.text). inr off) g)
 
-nothing_before : (before : List Numbered) (text : List ℕ) → (length before ≡ 64) ⊎ IsOff text → (length before + 0 ≡ 64) ⊎ IsOff text
-nothing_before before text = ⊎_elim (λ (full : length before ≡ 64). inl (omega arith)) (λ (off : IsOff text). inr off)
+-- what is faulty is so behind as many lines and none
+nothing_before : (cause : LineFault) (before : List Numbered) (text : List ℕ) → IsFault cause (length before) text → (length before + 0 ≡ 64) ⊎ IsOff text
+nothing_before Unbuilt before text = ⊎_elim (λ (full : length before ≡ 64). inl (omega arith)) (λ (off : IsOff text). inr off)
 
-pub one_fault : (bytes : List ℕ) (a b : ℕ) → IsFirstFault bytes a → IsFirstFault bytes b → a ≡ b
-one_fault bytes a b h g =
-    let same = same_place h.before g.before h.behind g.behind (line_of a h.text) (line_of b g.text) 0 (sym h.place ∙ g.place) h.good g.good (omega (arith, h.few)) (omega (arith, g.few)) (nothing_before h.before h.text h.fault) (nothing_before g.before g.text g.fault) in
-    ap (λ (line : Numbered). line.number) same
+-- there is one cause yet
+same_cause : (x y : LineFault) → x ≡ y
+same_cause Unbuilt Unbuilt = refl
+
+pub one_fault : (bytes : List ℕ) (a b : ℕ) (x y : LineFault) → IsFirstFault bytes a x → IsFirstFault bytes b y → (a ≡ b) × (x ≡ y)
+one_fault bytes a b x y h g =
+    let same = same_place h.before g.before h.behind g.behind (line_of a h.text) (line_of b g.text) 0 (sym h.place ∙ g.place) h.good g.good (omega (arith, h.few)) (omega (arith, g.few)) (nothing_before x h.before h.text h.fault) (nothing_before y g.before g.text g.fault) in
+    (ap (λ (line : Numbered). line.number) same, same_cause x y)

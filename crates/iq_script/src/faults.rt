@@ -1,5 +1,6 @@
 //! Why a script isn't read.
-ghost use Rattle.std.specs.Prelude.{◌≡◌, Some, codes};
+ghost use Rattle.std.specs.Prelude.{◌≡◌, ◌≤◌, Some, length};
+ghost use Rattle.iq_script.specs.Faults.{fault_text};
 ghost use Rattle.iq_script.specs.declared.faults.ScriptRefusal.TheVariants.{NoMemory as TheNoMemory};
 
 use iq_base::NoMemory;
@@ -12,11 +13,23 @@ pub enum LineFault {
     Unbuilt,
 }
 
+impl LineFault {
+    /// The fault's name, as it is printed.
+    pub fn name(&self) -> &'static str
+        ensures text { result.now ≡ fault_text self.now }
+        ensures short { length result.now ≤ 40 }
+    {
+        match self {
+            LineFault::Unbuilt => "Unbuilt",
+        }
+    }
+}
+
 impl fmt::Display for LineFault {
-    ghost output = { λ _. Some (codes "Unbuilt") };
+    ghost output = { λ e. Some (fault_text e) };
 
     fn fmt<W: fmt::Write>(&self, f: &mut fmt::Formatter<W>) -> fmt::Result {
-        f.write_str("Unbuilt")
+        f.write_str(self.name())
     }
 }
 

@@ -12,7 +12,4 @@ mod scripts;
 
 pub use faults::{LineFault, ScriptRefusal};
 pub use laws::{one_fault, one_script, script_or_fault};
-pub use scripts::read_script;
-
-#[cfg(test)]
-mod tests;
+pub use scripts::{MOST_BYTES, MOST_LINES, read_script};

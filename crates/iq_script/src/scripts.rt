@@ -2,7 +2,8 @@
 ghost use Rattle.std.specs.Prelude.{◌≡◌, ◌≤◌, true, [], ◌∷◌, IfOk, IfErr, OnOk, length};
 ghost use Rattle.iq_model.specs.Scripts.{IsRunnable, the_node, the_session};
 ghost use Rattle.iq_script.specs.Lines.{line_of, is_doing};
-ghost use Rattle.iq_script.specs.Scripts.{AreLinesOf, IsScriptOf, IsCause, IsPut, Takes, IsLineCause, IsDeedOf, IsDeedCause};
+ghost use Rattle.iq_script.specs.declared.scripts.TheConstants.{MOST_BYTES, MOST_LINES};
+ghost use Rattle.iq_script.specs.Scripts.{AreLinesOf, IsScriptOf, IsCause, IsPut, IsPutIfDoing, IsLineCause, IsDeedOf, IsDeedCause};
 
 use crate::faults::{LineFault, ScriptRefusal};
 use crate::lines::{first_piece, is_doing, without_cr};
@@ -11,8 +12,11 @@ use iq_model::{Deed, Line, Script};
 use iq_parse::{ParseFault, parse};
 use std::alloc::Global;
 
+/// The most bytes that a script may have.
+pub const MOST_BYTES: usize = 16_777_216;
+
 /// The most lines that a script may have beside empty ones and comments.
-const MOST_LINES: usize = 64;
+pub const MOST_LINES: usize = 64;
 
 fn fault(line: u32) -> ScriptRefusal
     ensures { result ≡ ScriptRefusal.ScriptFault line LineFault.Unbuilt }
@@ -42,7 +46,7 @@ fn put_line(
     number: u32,
     text: &[u8],
 ) -> Result<(), ScriptRefusal>
-    requires few { length lines.old.items ≤ 64 }
+    requires few { length lines.old.items ≤ MOST_LINES }
     requires doing { is_doing text.now ≡ true }
     ensures ok { OnOk result (IsPut (line_of number text.now) lines.old.items lines.new.items) }
     ensures fault { IfErr result (IsLineCause (line_of number text.now) lines.old.items) }
@@ -66,8 +70,8 @@ fn take_line(
     number: u32,
     text: &[u8],
 ) -> Result<(), ScriptRefusal>
-    requires { length lines.old.items ≤ 64 }
-    ensures ok { OnOk result (Takes (line_of number text.now) lines.old.items lines.new.items) }
+    requires { length lines.old.items ≤ MOST_LINES }
+    ensures ok { OnOk result (IsPutIfDoing (line_of number text.now) lines.old.items lines.new.items) }
     ensures fault { IfErr result (IsLineCause (line_of number text.now) lines.old.items) }
 {
     if is_doing(text) {
@@ -78,7 +82,7 @@ fn take_line(
 
 /// The lines that do something, each with its statement.
 fn read_lines(alloc: Global, bytes: &[u8]) -> Result<Listed<Line>, ScriptRefusal>
-    requires { length bytes.now ≤ 16777216 }
+    requires { length bytes.now ≤ MOST_BYTES }
     ensures ok { IfOk result (AreLinesOf bytes.now) }
     ensures fault { IfErr result (IsCause bytes.now) }
 {
@@ -127,7 +131,7 @@ fn sessions(alloc: Global, lines: u32) -> Result<Listed<SessionSpec>, ScriptRefu
 /// something. Lines end at LF, with a CR before it or none, and are numbered from 1; spaces alone, and `--` after spaces,
 /// do nothing. The refusal names the first line that isn't of the grammar, or that is the 65th. The time is linear.
 pub fn read_script(alloc: Global, bytes: &[u8]) -> Result<Script, ScriptRefusal>
-    requires { length bytes.now ≤ 16777216 }
+    requires { length bytes.now ≤ MOST_BYTES }
     ensures ok { IfOk result (IsScriptOf bytes.now) }
     ensures fault { IfErr result (IsCause bytes.now) }
     ensures runnable { IfOk result IsRunnable }

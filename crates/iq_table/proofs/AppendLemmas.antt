@@ -8,9 +8,9 @@ use Rattle.std.proofs.lemmas.Option.{get_or_from_slice_get}
 use Rattle.iq_base.specs.declared.values.Kind.{Kind}
 use Rattle.iq_base.specs.declared.values.Value.{Value}
 use Rattle.iq_base.specs.declared.values.Value.TheVariants.{Null}
-use Rattle.iq_base.specs.declared.page_faults.PageFault.{PageFault}
-use Rattle.iq_base.specs.declared.page_faults.PageFault.TheVariants.{Refused, BadPage, NoMemory}
-use Rattle.iq_base.specs.Pages.{Pages, IsPageOf}
+use Rattle.iq_pages.specs.declared.page_faults.PageFault.{PageFault}
+use Rattle.iq_pages.specs.declared.page_faults.PageFault.TheVariants.{Failed, BadPage, NoMemory}
+use Rattle.iq_pages.specs.Pages.{Pages, IsPageOf}
 use Rattle.iq_table.specs.Layout.{per_page, page_at, value_at, row_at, column_of, cell_in, Holds, HoldsFrom}
 use Rattle.iq_table.specs.Reading.{HoldsObject, HasColumnCause}
 use Rattle.iq_table.specs.Appending.{put_page, SavesPage, HasLoadCause, Appends, KeepsOthers}
@@ -48,7 +48,7 @@ appends_page kind count n first told between told' loaded page rows c some place
 
 -- why a page isn't loaded is why the object isn't appended to
 pub load_cause : (told : Option Pages) (kind : Kind) (object count n first before after : ℕ) (fault : PageFault) → 0 < per_page kind → count ≡ per_page kind * n + first → 0 < first → HasLoadCause told object n before after fault → HasColumnCause told kind object count before after fault
-load_cause told kind object count n first before after (Refused refusal) some place more cause = cause
+load_cause told kind object count n first before after (Failed x y) some place more cause = cause
 load_cause told kind object count n first before after (BadPage named page) some place more cause =
     (cause.0, λ values e h. absurd (omega (arith, cause.1 h.pages h.told_is, (reaches kind h.pages values n first h.holds (e ∙ place) some).1 more)))
 load_cause told kind object count n first before after NoMemory some place more cause = tt

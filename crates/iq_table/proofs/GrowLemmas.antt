@@ -7,7 +7,7 @@ use Rattle.iq_base.specs.declared.values.Kind.{Kind}
 use Rattle.iq_base.specs.declared.values.Value.{Value}
 use Rattle.iq_base.specs.declared.values.Value.TheVariants.{Null}
 use Rattle.iq_base.specs.Cells.{IsCell}
-use Rattle.iq_base.specs.Pages.{Pages}
+use Rattle.iq_pages.specs.Pages.{Pages}
 use Rattle.iq_table.specs.Layout.{per_page, page_at, value_at, cell_in, Holds}
 use Rattle.iq_table.specs.Appending.{put_page}
 use Rattle.iq_table.proofs.PutPage.{put_here, put_before, put_length}

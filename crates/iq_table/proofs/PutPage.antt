@@ -2,7 +2,7 @@
 use Rattle.std.proofs.Common.{◌≡◌, ◌<◌, ◌≤◌, ℕ, zero, suc, ◌+◌, max, List, [], ◌∷◌, Option, Some, None, IfSome, length, slice_set, refl, ap, ◌∙◌, arith}
 use Rattle.std.specs.Option.{option_map}
 use Rattle.std.proofs.lemmas.Grind.{common_steps}
-use Rattle.iq_base.specs.Pages.{Pages}
+use Rattle.iq_pages.specs.Pages.{Pages}
 use Rattle.iq_table.specs.Layout.{page_at}
 use Rattle.iq_table.specs.Appending.{put_page, SavesPage}
 

@@ -8,10 +8,10 @@ use Rattle.std.proofs.lemmas.List.{get_or-take, get_or-drop, length-take, length
 use Rattle.iq_base.specs.declared.values.Kind.{Kind}
 use Rattle.iq_base.specs.declared.values.Value.{Value}
 use Rattle.iq_base.specs.declared.values.Value.TheVariants.{Null}
-use Rattle.iq_base.specs.declared.page_faults.PageFault.{PageFault}
-use Rattle.iq_base.specs.declared.page_faults.PageFault.TheVariants.{Refused, BadPage, NoMemory}
-use Rattle.iq_base.specs.Pages.{Pages}
-use Rattle.iq_base.proofs.PageLaws.{risen_since}
+use Rattle.iq_pages.specs.declared.page_faults.PageFault.{PageFault}
+use Rattle.iq_pages.specs.declared.page_faults.PageFault.TheVariants.{Failed, BadPage, NoMemory}
+use Rattle.iq_pages.specs.Pages.{Pages}
+use Rattle.iq_pages.proofs.PageLaws.{rose_since}
 use Rattle.iq_table.specs.Layout.{per_page, page_at, value_at, Holds, HoldsCells}
 use Rattle.iq_table.specs.Reading.{HoldsObject, DecodesPage, IsBadPage, HasPageCause, HasColumnCause}
 
@@ -71,7 +71,7 @@ never_bad kind told values p here h less is bad =
 
 -- why a page isn't decoded is why the object isn't read
 pub column_cause : (told : Option Pages) (kind : Kind) (object p here count first before after : ℕ) (fault : PageFault) → per_page kind * p < count → here ≡ min (per_page kind) (count - per_page kind * p) → first ≤ before → HasPageCause told kind object p here before after fault → HasColumnCause told kind object count first after fault
-column_cause told kind object p here count first before after (Refused refusal) less is since cause = risen_since first before after since cause
+column_cause told kind object p here count first before after (Failed x y) less is since cause = rose_since first before after x y since cause
 column_cause told kind object p here count first before after (BadPage named page) less is since cause =
     (cause.0, λ values e h. never_bad kind told values p here h (omega arith) (rw e is) cause.2)
 column_cause told kind object p here count first before after NoMemory less is since cause = tt

@@ -5,7 +5,7 @@ use Rattle.std.proofs.lemmas.List.{length-map}
 use Rattle.iq_base.specs.declared.values.Kind.{Kind}
 use Rattle.iq_base.specs.declared.values.Value.{Value}
 use Rattle.iq_base.specs.declared.schemas.Column.{Column}
-use Rattle.iq_base.specs.Pages.{Pages}
+use Rattle.iq_pages.specs.Pages.{Pages}
 use Rattle.iq_table.specs.Layout.{value_at, column_of}
 use Rattle.iq_table.specs.Reading.{HoldsObject}
 use Rattle.iq_table.specs.Appending.{Appends, KeepsValues, KeepsOthers}

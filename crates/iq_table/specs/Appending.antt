@@ -2,9 +2,10 @@
 use Rattle.std.specs.Prelude.{◌≡◌, ◌≢◌, ◌<◌, ◌≤◌, ℕ, ◌+◌, List, ◌∷◌, ◌++◌, take, drop, Option, Some, length, ⊤}
 use Rattle.iq_base.specs.declared.values.Kind.{Kind}
 use Rattle.iq_base.specs.declared.values.Value.{Value}
-use Rattle.iq_base.specs.declared.page_faults.PageFault.{PageFault}
-use Rattle.iq_base.specs.declared.page_faults.PageFault.TheVariants.{Refused, BadPage, NoMemory}
-use Rattle.iq_base.specs.Pages.{Pages, HasRisen}
+use Rattle.iq_pages.specs.declared.page_faults.PageFault.{PageFault}
+use Rattle.iq_pages.specs.declared.page_faults.PageFault.TheVariants.{Failed, BadPage, NoMemory}
+use Rattle.iq_outside.specs.Faults.{RoseWithin}
+use Rattle.iq_pages.specs.Pages.{Pages}
 use Rattle.iq_table.specs.Reading.{HoldsObject}
 
 -- a list of pages with one of them, or the one behind them, written
@@ -17,13 +18,13 @@ SavesPage n page before after = (pages : Pages) → before ≡ Some pages → n 
 
 -- why a page isn't loaded: the store failed, or the object, which is named, has no such page or isn't told
 abbrev pub HasLoadCause : Option Pages → ℕ → ℕ → ℕ → ℕ → PageFault → Type 0
-HasLoadCause told object n before after (Refused refusal) = HasRisen before after
+HasLoadCause told object n before after (Failed x y) = RoseWithin before x y after
 HasLoadCause told object n before after (BadPage named page) = (named ≡ object) × ((pages : Pages) → told ≡ Some pages → length pages ≤ n)
 HasLoadCause told object n before after NoMemory = ⊤
 
 -- why a page isn't saved: the store failed, or the object, which is named, doesn't reach up to that page or isn't told
 abbrev pub HasSaveCause : Option Pages → ℕ → ℕ → ℕ → ℕ → PageFault → Type 0
-HasSaveCause told object n before after (Refused refusal) = HasRisen before after
+HasSaveCause told object n before after (Failed x y) = RoseWithin before x y after
 HasSaveCause told object n before after (BadPage named page) = (named ≡ object) × ((pages : Pages) → told ≡ Some pages → length pages < n)
 HasSaveCause told object n before after NoMemory = ⊤
 

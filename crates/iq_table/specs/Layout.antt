@@ -4,7 +4,7 @@ use Rattle.iq_base.specs.declared.values.Kind.{Kind}
 use Rattle.iq_base.specs.declared.values.Value.{Value}
 use Rattle.iq_base.specs.declared.values.Value.TheVariants.{Null}
 use Rattle.iq_base.specs.Cells.{width, IsOf, IsCell}
-use Rattle.iq_base.specs.Pages.{Pages}
+use Rattle.iq_pages.specs.Pages.{Pages}
 
 -- how many cells of a column a page has
 abbrev pub per_page : Kind → ℕ

@@ -3,9 +3,10 @@ use Rattle.std.specs.Int.{div_ceil}
 use Rattle.std.specs.Prelude.{◌≡◌, ◌<◌, ℕ, List, Option, Some, length, ⊤}
 use Rattle.iq_base.specs.declared.values.Kind.{Kind}
 use Rattle.iq_base.specs.declared.values.Value.{Value}
-use Rattle.iq_base.specs.declared.page_faults.PageFault.{PageFault}
-use Rattle.iq_base.specs.declared.page_faults.PageFault.TheVariants.{Refused, BadPage, NoMemory}
-use Rattle.iq_base.specs.Pages.{Pages, HasRisen}
+use Rattle.iq_pages.specs.declared.page_faults.PageFault.{PageFault}
+use Rattle.iq_pages.specs.declared.page_faults.PageFault.TheVariants.{Failed, BadPage, NoMemory}
+use Rattle.iq_outside.specs.Faults.{RoseWithin}
+use Rattle.iq_pages.specs.Pages.{Pages}
 use Rattle.iq_table.specs.Layout.{per_page, page_at, Holds, Decodes, IsBad}
 
 -- how many pages so many cells take
@@ -28,7 +29,7 @@ IsBadPage told kind p count = (pages : Pages) → told ≡ Some pages → p < le
 
 -- why a page of an object isn't decoded: the store failed, or the page is bad, and named
 abbrev pub HasPageCause : Option Pages → Kind → ℕ → ℕ → ℕ → ℕ → ℕ → PageFault → Type 0
-HasPageCause told kind object p count before after (Refused refusal) = HasRisen before after
+HasPageCause told kind object p count before after (Failed x y) = RoseWithin before x y after
 HasPageCause told kind object p count before after (BadPage named page) = (named ≡ object) × (page ≡ p) × IsBadPage told kind p count
 HasPageCause told kind object p count before after NoMemory = ⊤
 
@@ -38,6 +39,6 @@ GivesColumn told kind count got = (values : List Value) → length values ≡ co
 
 -- why an object isn't read: the store failed, or the object, which is named, holds no list of so many values
 abbrev pub HasColumnCause : Option Pages → Kind → ℕ → ℕ → ℕ → ℕ → PageFault → Type 0
-HasColumnCause told kind object count before after (Refused refusal) = HasRisen before after
+HasColumnCause told kind object count before after (Failed x y) = RoseWithin before x y after
 HasColumnCause told kind object count before after (BadPage named page) = (named ≡ object) × ((values : List Value) → length values ≡ count → ¬ (HoldsObject told kind values))
 HasColumnCause told kind object count before after NoMemory = ⊤

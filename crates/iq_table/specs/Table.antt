@@ -4,11 +4,12 @@ use Rattle.iq_base.specs.declared.values.Kind.{Kind}
 use Rattle.iq_base.specs.declared.values.Kind.TheVariants.{Int}
 use Rattle.iq_base.specs.declared.values.Value.{Value}
 use Rattle.iq_base.specs.declared.schemas.Column.{Column}
-use Rattle.iq_base.specs.declared.page_faults.PageFault.{PageFault}
-use Rattle.iq_base.specs.declared.page_faults.PageFault.TheVariants.{Refused, BadPage, NoMemory}
+use Rattle.iq_pages.specs.declared.page_faults.PageFault.{PageFault}
+use Rattle.iq_pages.specs.declared.page_faults.PageFault.TheVariants.{Failed, BadPage, NoMemory}
 use Rattle.iq_table.specs.declared.table.Table.{Table}
 use Rattle.iq_base.specs.Cells.{IsOf}
-use Rattle.iq_base.specs.Pages.{Pages, HasRisen}
+use Rattle.iq_outside.specs.Faults.{RoseWithin}
+use Rattle.iq_pages.specs.Pages.{Pages}
 use Rattle.iq_table.specs.Layout.{value_at, row_at, column_of}
 use Rattle.iq_table.specs.Reading.{HoldsObject, pages_for}
 
@@ -59,7 +60,7 @@ pub record KeepsTheRest (place : ℕ) (columns : List Column) (told told' : ℕ 
 
 -- why a call on a table fails: the store failed, or the columns, of whose objects one is named, stand for no rows
 abbrev pub HasTableCause : (ℕ → Option Pages) → ℕ → List Column → ℕ → ℕ → ℕ → PageFault → Type 0
-HasTableCause told place columns slots before after (Refused refusal) = HasRisen before after
+HasTableCause told place columns slots before after (Failed x y) = RoseWithin before x y after
 HasTableCause told place columns slots before after (BadPage object page) =
     IsObjectOf place columns object × ((rows : List (List Value)) → ¬ (Stands told place columns slots rows))
 HasTableCause told place columns slots before after NoMemory = ⊤
@@ -82,7 +83,7 @@ TellsObjects told place columns = (c : ℕ) → c < length columns → IsSome (t
 
 -- why the objects of columns aren't made: the store failed, or the pages of one of them, which is named, aren't told
 abbrev pub HasMakeCause : (ℕ → Option Pages) → ℕ → List Column → ℕ → ℕ → PageFault → Type 0
-HasMakeCause told place columns before after (Refused refusal) = HasRisen before after
+HasMakeCause told place columns before after (Failed x y) = RoseWithin before x y after
 HasMakeCause told place columns before after (BadPage object page) = IsObjectOf place columns object × (told object ≡ None)
 HasMakeCause told place columns before after NoMemory = ⊤
 

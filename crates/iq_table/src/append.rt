@@ -9,7 +9,8 @@ ghost use Rattle.iq_table.specs.Appending.{Appends, KeepsValues, KeepsOthers};
 use crate::page_cells::{cells_per_page, fill};
 use crate::pages::{load_page, save_page};
 use crate::table::{kind_at, object_of};
-use iq_base::{Column, Kind, PageFault, PageSink, Row};
+use iq_base::{Column, Kind, Row};
+use iq_pages::{PageFault, PageSink};
 
 /// Puts the values of rows behind the last ones of all columns. Each page is written once.
 pub fn append_to_columns<S: PageSink>(

@@ -1,9 +1,10 @@
 //! Loading and saving one page of an object.
 ghost use Rattle.std.specs.Prelude.{◌≡◌, ◌<◌, ◌≤◌, OnOk, OnErr, IfErr};
-ghost use Rattle.iq_base.specs.Pages.{IsPageOf};
+ghost use Rattle.iq_pages.specs.Pages.{IsPageOf};
 ghost use Rattle.iq_table.specs.Appending.{SavesPage, KeepsOthers, HasLoadCause, HasSaveCause};
 
-use iq_base::{Page, PageFault, PageSink, PageSource};
+use iq_base::Page;
+use iq_pages::{PageFault, PageSink, PageSource};
 
 /// Reads a page whose first cells are to stay, if there are any.
 pub fn load_page<S: PageSource>(

@@ -1,12 +1,13 @@
 //! Reading the columns of a table.
 ghost use Rattle.std.specs.Prelude.{◌≡◌, ◌≤◌, OnOk, IfOk, IfErr};
-ghost use Rattle.iq_base.specs.Pages.{ReadsMore};
+ghost use Rattle.iq_pages.specs.Pages.{CountsMore};
 ghost use Rattle.iq_table.specs.Layout.{per_page};
 ghost use Rattle.iq_table.specs.Reading.{pages_for, DecodesPage, HasPageCause, GivesColumn, HasColumnCause};
 
 use crate::decode::{Undecoded, decode};
 use crate::page_cells::cells_per_page;
-use iq_base::{Kind, PageFault, PageSource, Value};
+use iq_base::{Kind, Value};
+use iq_pages::{PageFault, PageSource};
 use std::alloc::Global;
 
 /// Reads the cells of an object in order, each page once.
@@ -20,7 +21,7 @@ pub fn read_object<S: PageSource>(
     ensures ok { IfOk result (λ got. GivesColumn (S.told source.old object) kind count got.items) }
     ensures told { S.told source.new ≡ S.told source.old }
     ensures counts { S.counts source.new ≡ S.counts source.old }
-    ensures reads { OnOk result (ReadsMore (pages_for kind count) (S.reads source.old) (S.reads source.new)) }
+    ensures reads { OnOk result (CountsMore (pages_for kind count) (S.reads source.old) (S.reads source.new)) }
     ensures later { S.faults source.old ≤ S.faults source.new }
     ensures cause { IfErr result (HasColumnCause (S.told source.old object) kind object count (S.faults source.old) (S.faults source.new)) }
 {
@@ -46,7 +47,7 @@ fn read_page<S: PageSource>(
     ensures ok { OnOk result (DecodesPage (S.told source.old object) kind p count values.old.items values.new.items) }
     ensures told { S.told source.new ≡ S.told source.old }
     ensures counts { S.counts source.new ≡ S.counts source.old }
-    ensures reads { OnOk result (ReadsMore 1 (S.reads source.old) (S.reads source.new)) }
+    ensures reads { OnOk result (CountsMore 1 (S.reads source.old) (S.reads source.new)) }
     ensures later { S.faults source.old ≤ S.faults source.new }
     ensures cause { IfErr result (HasPageCause (S.told source.old object) kind object p count (S.faults source.old) (S.faults source.new)) }
 {

@@ -1,6 +1,6 @@
 //! A table: its name, its columns and its number of rows.
 ghost use Rattle.std.specs.Prelude.{◌≡◌, ◌<◌, ◌≤◌, ℕ, ◌+◌, [], length, slice_index, OnOk, OnErr, IfOk, IfErr};
-ghost use Rattle.iq_base.specs.Pages.{ReadsMore};
+ghost use Rattle.iq_pages.specs.Pages.{CountsMore};
 ghost use Rattle.iq_base.specs.Limits.{row_limit};
 ghost use Rattle.iq_table.specs.Reading.{pages_for};
 ghost use Rattle.iq_table.specs.Table.{kind_at, object_of, AreRowsOf, Stands, TableStands, Gains, Keeps, KeepsTheRest, TellsObjects, GivesValues, GivesRows, pages_of, HasTableCause, HasMakeCause};
@@ -8,7 +8,8 @@ ghost use Rattle.iq_table.specs.Table.{kind_at, object_of, AreRowsOf, Stands, Ta
 use crate::append::append_to_columns;
 use crate::read::read_object;
 use crate::rows::rows_of;
-use iq_base::{Column, Kind, Listed, Name, PageFault, PageSink, PageSource, Row, Schema, Value};
+use iq_base::{Column, Kind, Listed, Name, Row, Schema, Value};
+use iq_pages::{PageFault, PageSink, PageSource};
 use std::alloc::Global;
 
 /// A table as a commit has it. Its rows are in the pages of its objects, one object a column.
@@ -89,7 +90,7 @@ impl Table {
         ensures ok { IfOk result (λ values. GivesValues (S.told source.old) place self.now column values.items) }
         ensures told { S.told source.new ≡ S.told source.old }
         ensures counts { S.counts source.new ≡ S.counts source.old }
-        ensures reads { OnOk result (ReadsMore (pages_for (kind_at column self.now.schema.columns) self.now.slots) (S.reads source.old) (S.reads source.new)) }
+        ensures reads { OnOk result (CountsMore (pages_for (kind_at column self.now.schema.columns) self.now.slots) (S.reads source.old) (S.reads source.new)) }
         ensures later { S.faults source.old ≤ S.faults source.new }
         ensures cause { IfErr result (HasTableCause (S.told source.old) place self.now.schema.columns self.now.slots (S.faults source.old) (S.faults source.new)) }
     {
@@ -111,7 +112,7 @@ impl Table {
         ensures ok { IfOk result (λ rows. GivesRows (S.told source.old) place self.now columns.now rows.items) }
         ensures told { S.told source.new ≡ S.told source.old }
         ensures counts { S.counts source.new ≡ S.counts source.old }
-        ensures reads { OnOk result (ReadsMore (pages_of self.now.schema.columns self.now.slots columns.now) (S.reads source.old) (S.reads source.new)) }
+        ensures reads { OnOk result (CountsMore (pages_of self.now.schema.columns self.now.slots columns.now) (S.reads source.old) (S.reads source.new)) }
         ensures later { S.faults source.old ≤ S.faults source.new }
         ensures cause { IfErr result (HasTableCause (S.told source.old) place self.now.schema.columns self.now.slots (S.faults source.old) (S.faults source.new)) }
     {

@@ -1,8 +1,6 @@
 use crate::{Table, are_rows_of};
-use iq_base::{
-    Column, Kind, Listed, MemoryPages, Name, PageFault, PageSink, Refusal, Row, Schema, Text,
-    Value, row_limit,
-};
+use iq_base::{Column, Kind, Listed, Name, Row, Schema, Text, Value, row_limit};
+use iq_pages::{MemoryPages, PageFault, PageSink};
 use std::alloc::Global;
 use std::process::Abort;
 use std::test::Fail;
@@ -134,7 +132,7 @@ fn each_page_is_touched_once_and_a_failed_call_keeps_the_rows(rt: HostRuntime) -
         let mut table = table(rt.alloc())?;
         let mut store = MemoryPages::new(rt.alloc(), vec![in rt.alloc(); call]?);
         match run(&rt, rt.alloc(), &mut table, &mut store, &all) {
-            Err(PageFault::Refused(Refusal::StoreFault { .. })) => {
+            Err(PageFault::Failed { .. }) => {
                 assert!(rt; call <= CALLS);
                 let before = table.slots as usize;
                 let columns = [2, 0, 1];

@@ -9,18 +9,19 @@ use Rattle.iq_world.specs.declared.worlds.WorldNode.{WorldNode}
 use Rattle.iq_world.specs.declared.worlds.WorldRun.{WorldRun}
 use Rattle.iq_world.specs.declared.worlds.Reach.{Reach}
 use Rattle.iq_world.specs.declared.worlds.WorldStep.TheVariants.{Commit}
-use Rattle.iq_world.specs.World.{times, holds, without, node_at, latest_of, run_place, run_of, no_run}
+use Rattle.iq_world.specs.World.{times, holds, without, put_all, node_at, latest_of, run_place, run_of, no_run}
 use Rattle.iq_world.specs.Floors.{floor_of}
 use Rattle.iq_world.specs.Space.{roots, reach_of, dropped, dropped_after, waiting, times_free, times_loose, times_bound}
 use Rattle.iq_world.specs.Steps.{possible, moved, without_run, ended_with, committed, are_distinct, are_from}
+use Rattle.iq_world.specs.Laws.{Commits}
 use Rattle.iq_world.specs.Sound.{RunFits, IsSound}
 use Rattle.iq_world.proofs.Times.{as_one_le, held_times, unheld_times, times-append, times-without_held, times-without_unheld}
 use Rattle.iq_world.proofs.Kept.{reach_of-other, reach_of-last, dropped_after-agree, numbers-more}
-use Rattle.iq_world.proofs.Drops.{dropped_after-more}
+use Rattle.iq_world.proofs.Drops.{dropped_next, dropped_after-more}
 use Rattle.iq_world.proofs.Possible.{both}
 use Rattle.iq_world.proofs.Counts.{node_here, node_each, home_each, home_length, free-sent_home, free-with_node, private-without_run}
 use Rattle.iq_world.proofs.Runs.{All-remove, count-remove}
-use Rattle.iq_world.proofs.Rising.{runs_low, floors_rise, bag_low, NodeRises, rises_still, rises_reserved, runs_refit, reports_refit, versions_hold, Good}
+use Rattle.iq_world.proofs.Rising.{runs_low, Rises, floors_rise, never_falls, bag_low, NodeRises, rises_still, rises_reserved, runs_refit, reports_refit, versions_hold, Good}
 use Rattle.iq_world.proofs.Stepping.{runs_at}
 
 -- a test that every number of a list passes, one that the list holds passes
@@ -30,7 +31,7 @@ all_held p (x ∷ xs) b a h =
     let t = both a in
     ⊎_elim (λ e. subst (λ (y : ℕ). p y ≡ true) e.1 t.0) (λ e. all_held p xs b t.1 (rw e.0 at h)) (eqb_tells x b)
 
-either : {a b : Bool} → (a || b) ≡ true → (a ≡ true) ⊎ (b ≡ true)
+pub either : {a b : Bool} → (a || b) ≡ true → (a ≡ true) ⊎ (b ≡ true)
 either {a} {b} =
     elim a as (λ (t : Bool). (t || b) ≡ true → (t ≡ true) ⊎ (b ≡ true)) [ true ↦ λ _. inl refl | false ↦ λ h. inr h ]
 
@@ -57,7 +58,7 @@ committed_each P w s blocks h still home move i l =
     let n = (run_of w s).node in
     let c = latest_of w + 1 in
     let others = without (run_of w s).private blocks in
-    let xs = (node_at w n).reserved ++ others in
+    let xs = put_all (node_at w n).reserved others in
     let ended = ended_with w s others in
     let m = moved n c ended in
     let same : length ended.nodes ≡ length w.nodes = home_length w n (record (node_at w n) { reserved = xs }) in
@@ -76,7 +77,7 @@ committed_length w s blocks =
     let ended = ended_with w s (without (run_of w s).private blocks) in
     let m = moved n c ended in
     length-set m.nodes 0 (record (node_at m 0) { position = c }) ∙ length-set ended.nodes n (record (node_at ended n) { position = c })
-    ∙ home_length w n (record (node_at w n) { reserved = (node_at w n).reserved ++ without (run_of w s).private blocks })
+    ∙ home_length w n (record (node_at w n) { reserved = put_all (node_at w n).reserved (without (run_of w s).private blocks) })
 
 committed_latest : (w : World) (s : ℕ) (blocks : List ℕ) → 0 < length w.nodes → latest_of (committed w s blocks) ≡ latest_of w + 1
 committed_latest w s blocks some =
@@ -98,13 +99,13 @@ committed_free b w s blocks h =
     let first = record (node_at m 0) { position = c } in
     let node = record (node_at ended n) { position = c } in
     let there : n < length ended.nodes =
-    (let e = home_length w n (record (node_at w n) { reserved = (node_at w n).reserved ++ others }) in omega arith) in
+    (let e = home_length w n (record (node_at w n) { reserved = put_all (node_at w n).reserved others }) in omega arith) in
     let some : 0 < length m.nodes = (let e = length-set ended.nodes n node in omega arith) in
     free-with_node b m 0 first some refl ∙ free-with_node b ended n node there refl ∙ free-sent_home b (without_run s w) n others h
 
--- what is reached and what waits after a commit
-committed_bound : (b : ℕ) (w : World) (s : ℕ) (blocks : List ℕ) → IsSound w → times_bound (committed w s blocks) b ≡ times b blocks + (times b (waiting w) + times b (without (reach_of w.reach (latest_of w)) blocks))
-committed_bound b w s blocks g =
+-- what a commit reaches, what it drops and what waits after it
+pub commits : (w : World) (s : ℕ) (blocks : List ℕ) → IsSound w → Commits w blocks (committed w s blocks)
+commits w s blocks g =
     let v = committed w s blocks in
     let c = latest_of w + 1 in
     let r : Reach = record { commit = c; blocks = blocks } in
@@ -114,21 +115,38 @@ committed_bound b w s blocks g =
     let top = committed_latest w s blocks g.form.coordinator in
     let next : w.base + (latest_of w - w.base + 1) ≡ c = omega arith in
     let last : reach_of rs c ≡ blocks = ap (reach_of rs) (sym next) ∙ reach_of-last w.reach r w.base (latest_of w - w.base + 1) g.form.commits (sym next) in
-    let others : (j : ℕ) → w.base ≤ j → j ≤ w.base + k → reach_of rs j ≡ reach_of w.reach j =
-    λ j l m. reach_of-other w.reach r j (λ (e : c ≡ j). absurd (omega arith)) in
+    let others : (j : ℕ) → j ≤ latest_of w → reach_of rs j ≡ reach_of w.reach j =
+    λ j m. reach_of-other w.reach r j (λ (e : c ≡ j). absurd (omega arith)) in
     let at : w.base + k ≡ latest_of w = omega arith in
     let more : latest_of v - w.base ≡ suc k = omega arith in
-    let old : reach_of rs (latest_of w) ≡ reach_of w.reach (latest_of w) = others (latest_of w) made (omega arith) in
-    let new : dropped rs (w.base + k) ≡ without (reach_of w.reach (latest_of w)) blocks =
-    ap (dropped rs) at ∙ ap (λ (xs : List ℕ). without xs (reach_of rs c)) old ∙ ap (without (reach_of w.reach (latest_of w))) last in
-    let waits : dropped_after rs w.base (latest_of v - w.base) ≡ waiting w ++ without (reach_of w.reach (latest_of w)) blocks =
-    ap (dropped_after rs w.base) more ∙ dropped_after-more rs w.base k
-    ∙ ap (λ (xs : List ℕ). xs ++ dropped rs (w.base + k)) (dropped_after-agree rs w.reach w.base k others)
-    ∙ ap (λ (xs : List ℕ). waiting w ++ xs) new in
-    ap (λ (xs : List ℕ). times b xs + times b (dropped_after rs w.base (latest_of v - w.base))) (ap (reach_of rs) top ∙ last)
-    ∙ ap (λ (n : ℕ). times b blocks + n) (ap (times b) waits ∙ times-append b (waiting w) (without (reach_of w.reach (latest_of w)) blocks))
+    let new : dropped rs c ≡ without (reach_of w.reach (latest_of w)) blocks =
+    dropped_next rs (latest_of w) ∙ ap (λ (xs : List ℕ). without xs (reach_of rs c)) (others (latest_of w) (omega arith))
+    ∙ ap (without (reach_of w.reach (latest_of w))) last in
+    record {
+      latest = top;
+      base = refl;
+      reach = ap (reach_of rs) top ∙ last;
+      drops = ap (dropped rs) top ∙ new;
+      others =
+          λ j past most.
+          let before = others (j - 1) (omega arith) in
+          let here = others j most in
+          ap (λ (xs : List ℕ). without xs (reach_of rs j)) before ∙ ap (without (reach_of w.reach (j - 1))) here;
+      waits =
+          ap (dropped_after rs w.base) more ∙ dropped_after-more rs w.base k
+          ∙ ap (λ (xs : List ℕ). xs ++ dropped rs (w.base + k + 1)) (dropped_after-agree rs w.reach w.base k (λ j l m. others j (omega arith)))
+          ∙ ap (λ (j : ℕ). waiting w ++ dropped rs (j + 1)) at ∙ ap (λ (xs : List ℕ). waiting w ++ xs) new;
+    }
+
+-- what is reached and what waits after a commit
+committed_bound : (b : ℕ) (w : World) (s : ℕ) (blocks : List ℕ) → IsSound w → times_bound (committed w s blocks) b ≡ times b blocks + (times b (waiting w) + times b (without (reach_of w.reach (latest_of w)) blocks))
+committed_bound b w s blocks g =
+    let made = commits w s blocks g in
+    ap (λ (xs : List ℕ). times b xs + times b (waiting (committed w s blocks))) made.reach
+    ∙ ap (λ (n : ℕ). times b blocks + n) (ap (times b) made.waits ∙ times-append b (waiting w) (without (reach_of w.reach (latest_of w)) blocks))
 
 pub good_commit : (w : World) (s : ℕ) (blocks : List ℕ) → possible w (Commit s blocks) ≡ true → IsSound w → Good w (committed w s blocks)
+unfolding possible
 good_commit w s blocks can g =
     let v = committed w s blocks in
     let c = latest_of w + 1 in
@@ -155,7 +173,17 @@ good_commit w s blocks can g =
     committed_each (NodeRises w c) w s blocks r.fits.known
     (λ i l. rises_still w c i (omega arith) (g.floors.nodes i l))
     (λ xs ne. rises_reserved w c n xs (omega arith) r.fits.not_excluded (g.floors.nodes n r.fits.known))
-    (λ i x k. record { position = (let a = k.position in let b = k.made in omega arith); made = omega arith; taken = k.taken; included = k.included; idle = k.idle }) in
+    (λ i x k. record { position = (let a = k.position in let b = k.made in omega arith); made = omega arith; raised = k.raised; taken = k.taken; included = k.included; idle = k.idle }) in
+    let up : Rises w v =
+    record {
+      nodes = same;
+      base = refl;
+      top = omega arith;
+      node = λ i h. inl (subst (λ (m : ℕ). NodeRises w m i (node_at v i)) (sym top) (rises i h));
+      runs = runs_refit w v v.runs same (λ i l. (let k = known i l in (k.0, k.2))) (All-remove (RunFits w) w.runs (run_place w s) g.floors.runs);
+      lows = All-remove (λ (x : WorldRun). floor_of w x.node ≤ x.snapshot) w.runs (run_place w s) (runs_low w);
+      reports = bag_low w g;
+    } in
     record {
       sound =
           record {
@@ -192,17 +220,9 @@ good_commit w s blocks can g =
                 let moved : times b roots + times_loose v b + times_bound v b ≡ times b roots + times_loose w b + times_bound w b = omega arith in
                 moved ∙ whole;
             versions = versions_hold v;
-            floors =
-                floors_rise w v
-                (record {
-                  nodes = same;
-                  base = refl;
-                  node = λ i h. subst (λ (m : ℕ). NodeRises w m i (node_at v i)) (sym top) (rises i h);
-                  runs = runs_refit w v v.runs same (λ i l. (let k = known i l in (k.0, k.2))) (All-remove (RunFits w) w.runs (run_place w s) g.floors.runs);
-                  lows = All-remove (λ (x : WorldRun). floor_of w x.node ≤ x.snapshot) w.runs (run_place w s) (runs_low w);
-                  reports = bag_low w g;
-                })
-                g.floors;
+            floors = floors_rise w v up g;
           };
       held = λ b. (let free = committed_free b w s blocks r.fits.known in omega arith);
+      rises = never_falls w v up g;
+      reach = λ j low kept most. reach_of-other w.reach (record { commit = c; blocks = blocks }) j (λ (e : c ≡ j). absurd (omega arith));
     }

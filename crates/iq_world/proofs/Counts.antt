@@ -8,9 +8,9 @@ use Rattle.std.proofs.lemmas.Bool.{eqb-false, cases_eq}
 use Rattle.iq_world.specs.declared.worlds.World.{World}
 use Rattle.iq_world.specs.declared.worlds.WorldNode.{WorldNode}
 use Rattle.iq_world.specs.declared.worlds.WorldRun.{WorldRun}
-use Rattle.iq_world.specs.World.{times, holds, put_all, node_at, no_node, run_place, run_of, no_run}
+use Rattle.iq_world.specs.World.{times, holds, put_all, node_at, no_node, run_place, run_of, no_run, runs_on}
 use Rattle.iq_world.specs.Space.{all_reserved, all_private, times_free, times_loose}
-use Rattle.iq_world.specs.Steps.{with_node, freed, home, sent_home, less, left_home, with_private, without_run, runs_on, cleared}
+use Rattle.iq_world.specs.Steps.{with_node, freed, home, sent_home, less, left_home, with_private, without_run, cleared}
 use Rattle.iq_world.proofs.Times.{one, times-append, times-flat_map, times-put_all, times-less}
 
 -- the node at a place after one was changed
@@ -54,11 +54,11 @@ free-freed b w xs = omega (arith, times-put_all b w.free xs)
 
 pub free-sent_home : (b : ℕ) (w : World) (n : ℕ) (xs : List ℕ) → n < length w.nodes → times_free (sent_home n xs w) b ≡ times_free w b + times b xs
 free-sent_home b w n xs h =
-    let node = record (node_at w n) { reserved = (node_at w n).reserved ++ xs } in
+    let node = record (node_at w n) { reserved = put_all (node_at w n).reserved xs } in
     let P : Bool → Type 0 = λ t. times b (cond t (put_all w.free xs) w.free) + times b (flat_map (λ (x : WorldNode). x.reserved) (cond t w.nodes (set w.nodes n node))) ≡ times_free w b + times b xs in
     elim (n == 0) as P [
       | true ↦ free-freed b w xs
-      | false ↦ omega (arith, reserved-with_node b w n node h, times-append b (node_at w n).reserved xs)
+      | false ↦ omega (arith, reserved-with_node b w n node h, times-put_all b (node_at w n).reserved xs)
     ]
 
 -- what leaves home isn't free

@@ -6,6 +6,7 @@ use Rattle.std.proofs.lemmas.Bool.{le-leb, lt-leb}
 use Rattle.iq_world.specs.declared.worlds.Reach.{Reach}
 use Rattle.iq_world.specs.World.{times, holds}
 use Rattle.iq_world.specs.Space.{reach_of, dropped, dropped_after}
+use Rattle.iq_world.proofs.Drops.{dropped_next}
 use Rattle.iq_world.proofs.Times.{times-append, held_times, times-without_unheld}
 
 -- a commit that isn't the last reaches what it reached without that
@@ -43,6 +44,8 @@ dropped_after-agree rs ss c zero h = refl
 dropped_after-agree rs ss c (suc n) h =
     let here : reach_of rs c ≡ reach_of ss c = h c (omega arith) (omega arith) in
     let next : reach_of rs (c + 1) ≡ reach_of ss (c + 1) = h (c + 1) (omega arith) (omega arith) in
+    let one = dropped_next rs c in
+    let other = dropped_next ss c in
     let rest : dropped_after rs (c + 1) n ≡ dropped_after ss (c + 1) n = dropped_after-agree rs ss (c + 1) n (λ k a b. h k (omega arith) (omega arith)) in
     cc
 
@@ -51,12 +54,12 @@ pub kept_or_dropped : (b : ℕ) (rs : List Reach) (c n : ℕ) → 0 < times b (r
 kept_or_dropped b rs c zero h =
     let same : c + 0 ≡ c = omega arith in rw same (omega arith)
 kept_or_dropped b rs c (suc n) h =
-    let more = times-append b (dropped rs c) (dropped_after rs (c + 1) n) in
+    let more = times-append b (dropped rs (c + 1)) (dropped_after rs (c + 1) n) in
     let there : c + suc n ≡ c + 1 + n = omega arith in
-    let P : Bool → Type 0 = λ t. holds (reach_of rs (c + 1)) b ≡ t → 0 < times b (reach_of rs (c + suc n)) + times b (dropped rs c ++ dropped_after rs (c + 1) n) in
+    let P : Bool → Type 0 = λ t. holds (reach_of rs (c + 1)) b ≡ t → 0 < times b (reach_of rs (c + suc n)) + times b (dropped rs (c + 1) ++ dropped_after rs (c + 1) n) in
     (elim (holds (reach_of rs (c + 1)) b) as P [
       | true ↦ λ e. omega (arith, more, kept_or_dropped b rs (c + 1) n (held_times b _ e), ap (λ (k : ℕ). times b (reach_of rs k)) there)
-      | false ↦ λ e. omega (arith, more, times-without_unheld b (reach_of rs c) _ e)
+      | false ↦ λ e. omega (arith, more, ap (times b) (dropped_next rs c), times-without_unheld b (reach_of rs c) _ e)
     ]) refl
 
 -- the numbers of the kept commits

@@ -1,67 +1,86 @@
 -- A floor is the greatest number that is at most the position and the snapshots; the horizon likewise.
-use Rattle.std.proofs.Common.{◌≡◌, ℕ, ◌==◌, ◌≤◌, Bool, true, false, cond, min, List, [], ◌∷◌, refl, sym, subst, arith}
-use Rattle.std.specs.List.{fold, All}
-use Rattle.std.proofs.lemmas.List.Elements.{All-nil, All-cons, All-head, All-tail}
-use Rattle.std.proofs.lemmas.Bool.{eq-eqb, eqb-true}
+use Rattle.std.proofs.Common.{◌≡◌, ℕ, ◌==◌, ◌≤◌, Bool, true, false, cond, not, min, List, [], ◌∷◌, map, refl, sym, ap, ◌∙◌}
+use Rattle.std.specs.List.{fold, filter, All}
+use Rattle.std.proofs.lemmas.List.Elements.{All-nil, All-cons, All-head, All-tail, All-map, All-filter, All-weaker, filter_passes}
+use Rattle.std.proofs.lemmas.Bool.{eq-eqb, eqb-true, false≢true}
+use Rattle.iq_floors.specs.Floors.{least, floor, horizon}
+use Rattle.iq_floors.proofs.Least.{least-min, least_first, least_each, least_above}
 use Rattle.iq_world.specs.declared.worlds.WorldNode.{WorldNode}
 use Rattle.iq_world.specs.declared.worlds.WorldRun.{WorldRun}
-use Rattle.iq_world.specs.Floors.{lower, lower_taken}
+use Rattle.iq_world.specs.World.{runs_on}
+use Rattle.iq_world.specs.Floors.{snapshots_on, is_counted, taken_floors}
+use Rattle.iq_world.proofs.Possible.{not_true}
 
--- one run's step never rises, is at most the run's snapshot where the run counts, and keeps what both are above
-lower_le : (n p : ℕ) (r : WorldRun) → lower n p r ≤ p
-lower_le n p r = elim (r.node == n) as (λ (t : Bool). cond t (min p r.snapshot) p ≤ p) [ true ↦ omega arith | false ↦ omega arith ]
+-- how a walk over the runs, and one over the nodes, go on
+abbrev pub lower : ℕ → ℕ → WorldRun → ℕ
+lower n low r = cond (r.node == n) (min low r.snapshot) low
 
-lower_le_run : (n p : ℕ) (r : WorldRun) → r.node ≡ n → lower n p r ≤ r.snapshot
-lower_le_run n p r e =
-    subst (λ (t : Bool). cond t (min p r.snapshot) p ≤ r.snapshot) (sym (eq-eqb r.node n e)) (omega arith)
+abbrev pub lower_taken : ℕ → WorldNode → ℕ
+lower_taken low n = cond n.excluded low (min low n.taken)
 
-lower_above : (n p x : ℕ) (r : WorldRun) → x ≤ p → (r.node ≡ n → x ≤ r.snapshot) → x ≤ lower n p r
-lower_above n p x r h k =
-    let P : Bool → Type 0 = λ t. (r.node == n) ≡ t → x ≤ cond t (min p r.snapshot) p in
-    (elim (r.node == n) as P [ true ↦ λ e. (let s : x ≤ r.snapshot = k (eqb-true r.node n e) in omega arith) | false ↦ λ _. h ]) refl
+-- such a walk ends at the floor, and at the horizon
+pub floor_is : (n p : ℕ) (rs : List WorldRun) → fold (lower n) p rs ≡ floor p (snapshots_on n rs)
+floor_is n p [] = refl
+floor_is n p (r ∷ rs) =
+    elim (r.node == n) as (λ (t : Bool). fold (lower n) (cond t (min p r.snapshot) p) rs ≡ least p (map (λ (x : WorldRun). x.snapshot) (cond t (r ∷ filter (runs_on n) rs) (filter (runs_on n) rs)))) [
+      | true ↦ floor_is n (min p r.snapshot) rs ∙ least-min p r.snapshot (snapshots_on n rs)
+      | false ↦ floor_is n p rs
+    ]
 
-pub low_le : (n p : ℕ) (rs : List WorldRun) → fold (lower n) p rs ≤ p
-low_le n p [] = omega arith
-low_le n p (r ∷ rs) = omega (arith, low_le n (lower n p r) rs, lower_le n p r)
+pub horizon_is : (p : ℕ) (ns : List WorldNode) → fold lower_taken p ns ≡ horizon p (taken_floors ns)
+horizon_is p [] = refl
+horizon_is p (n ∷ ns) =
+    elim n.excluded as (λ (t : Bool). fold lower_taken (cond t p (min p n.taken)) ns ≡ least p (map (λ (x : WorldNode). x.taken) (cond (not t) (n ∷ filter is_counted ns) (filter is_counted ns)))) [
+      | true ↦ horizon_is p ns
+      | false ↦ horizon_is (min p n.taken) ns ∙ least-min p n.taken (taken_floors ns)
+    ]
 
-pub low_below : (n p : ℕ) (rs : List WorldRun) → All (λ (r : WorldRun). r.node ≡ n → fold (lower n) p rs ≤ r.snapshot) rs
-low_below n p [] = All-nil _
-low_below n p (r ∷ rs) =
-    All-cons (λ (x : WorldRun). x.node ≡ n → fold (lower n) (lower n p r) rs ≤ x.snapshot) r rs
-    (λ e. omega (arith, low_le n (lower n p r) rs, lower_le_run n p r e))
-    (low_below n (lower n p r) rs)
+-- what holds of a number of every element that passes a test holds of each such element
+counted_all : {X : Type 0} (P : ℕ → Type 0) (f : X → ℕ) (t : X → Bool) (xs : List X) → All P (map f (filter t xs)) → All (λ x. t x ≡ true → P (f x)) xs
+counted_all P f t [] all = All-nil _
+counted_all {X} P f t (x ∷ xs) all =
+    let Q : Bool → Type 0 = λ b. t x ≡ b → All P (map f (cond b (x ∷ filter t xs) (filter t xs))) → All (λ (y : X). t y ≡ true → P (f y)) (x ∷ xs) in
+    (elim (t x) as Q [
+      | true ↦
+          λ e h.
+          All-cons (λ (y : X). t y ≡ true → P (f y)) x xs (λ _. All-head P (f x) (map f (filter t xs)) h)
+          (counted_all P f t xs (All-tail P (f x) (map f (filter t xs)) h))
+      | false ↦ λ e h. All-cons (λ (y : X). t y ≡ true → P (f y)) x xs (λ k. absurd (false≢true (sym e ∙ k))) (counted_all P f t xs h)
+    ]) refl all
 
-pub low_above : (n p x : ℕ) (rs : List WorldRun) → x ≤ p → All (λ (r : WorldRun). r.node ≡ n → x ≤ r.snapshot) rs → x ≤ fold (lower n) p rs
-low_above n p x [] h all = h
-low_above n p x (r ∷ rs) h all =
-    let P : WorldRun → Type 0 = λ r. r.node ≡ n → x ≤ r.snapshot in
-    low_above n (lower n p r) x rs (lower_above n p x r h (All-head P r rs all)) (All-tail P r rs all)
+pub low_le : (n p : ℕ) (rs : List WorldRun) → floor p (snapshots_on n rs) ≤ p
+low_le n p rs = least_first p (snapshots_on n rs)
+
+pub low_below : (n p : ℕ) (rs : List WorldRun) → All (λ (r : WorldRun). r.node ≡ n → floor p (snapshots_on n rs) ≤ r.snapshot) rs
+low_below n p rs =
+    let low = floor p (snapshots_on n rs) in
+    All-weaker (λ (r : WorldRun). runs_on n r ≡ true → low ≤ r.snapshot) (λ (r : WorldRun). r.node ≡ n → low ≤ r.snapshot)
+    (λ r h e. h (eq-eqb r.node n e)) rs
+    (counted_all (λ x. low ≤ x) (λ (r : WorldRun). r.snapshot) (runs_on n) rs (least_each p (snapshots_on n rs)))
+
+pub low_above : (n p x : ℕ) (rs : List WorldRun) → x ≤ p → All (λ (r : WorldRun). r.node ≡ n → x ≤ r.snapshot) rs → x ≤ floor p (snapshots_on n rs)
+low_above n p x rs h all =
+    least_above p x (snapshots_on n rs) h
+    (All-map (λ k. x ≤ k) (λ (r : WorldRun). r.snapshot) (filter (runs_on n) rs)
+    (λ k d l.
+    All-filter (runs_on n) (λ (r : WorldRun). r.node ≡ n → x ≤ r.snapshot) rs all k d l
+    (eqb-true _ n (filter_passes (runs_on n) rs k d l))))
 
 -- the same of the horizon
-least_le : (p : ℕ) (n : WorldNode) → lower_taken p n ≤ p
-least_le p n = elim n.excluded as (λ (t : Bool). cond t p (min p n.taken) ≤ p) [ true ↦ omega arith | false ↦ omega arith ]
+pub horizon_le : (p : ℕ) (ns : List WorldNode) → horizon p (taken_floors ns) ≤ p
+horizon_le p ns = least_first p (taken_floors ns)
 
-least_le_taken : (p : ℕ) (n : WorldNode) → n.excluded ≡ false → lower_taken p n ≤ n.taken
-least_le_taken p n e = subst (λ (t : Bool). cond t p (min p n.taken) ≤ n.taken) (sym e) (omega arith)
+pub horizon_below : (p : ℕ) (ns : List WorldNode) → All (λ (n : WorldNode). n.excluded ≡ false → horizon p (taken_floors ns) ≤ n.taken) ns
+horizon_below p ns =
+    let low = horizon p (taken_floors ns) in
+    All-weaker (λ (n : WorldNode). is_counted n ≡ true → low ≤ n.taken) (λ (n : WorldNode). n.excluded ≡ false → low ≤ n.taken)
+    (λ n h e. h (ap not e)) ns
+    (counted_all (λ x. low ≤ x) (λ (n : WorldNode). n.taken) is_counted ns (least_each p (taken_floors ns)))
 
-least_above : (p x : ℕ) (n : WorldNode) → x ≤ p → (n.excluded ≡ false → x ≤ n.taken) → x ≤ lower_taken p n
-least_above p x n h k =
-    let P : Bool → Type 0 = λ t. n.excluded ≡ t → x ≤ cond t p (min p n.taken) in
-    (elim n.excluded as P [ true ↦ λ _. h | false ↦ λ e. (let s : x ≤ n.taken = k e in omega arith) ]) refl
-
-pub horizon_le : (p : ℕ) (ns : List WorldNode) → fold lower_taken p ns ≤ p
-horizon_le p [] = omega arith
-horizon_le p (n ∷ ns) = omega (arith, horizon_le (lower_taken p n) ns, least_le p n)
-
-pub horizon_below : (p : ℕ) (ns : List WorldNode) → All (λ (n : WorldNode). n.excluded ≡ false → fold lower_taken p ns ≤ n.taken) ns
-horizon_below p [] = All-nil _
-horizon_below p (n ∷ ns) =
-    All-cons (λ (x : WorldNode). x.excluded ≡ false → fold lower_taken (lower_taken p n) ns ≤ x.taken) n ns
-    (λ e. omega (arith, horizon_le (lower_taken p n) ns, least_le_taken p n e))
-    (horizon_below (lower_taken p n) ns)
-
-pub horizon_above : (p x : ℕ) (ns : List WorldNode) → x ≤ p → All (λ (n : WorldNode). n.excluded ≡ false → x ≤ n.taken) ns → x ≤ fold lower_taken p ns
-horizon_above p x [] h all = h
-horizon_above p x (n ∷ ns) h all =
-    let P : WorldNode → Type 0 = λ n. n.excluded ≡ false → x ≤ n.taken in
-    horizon_above (lower_taken p n) x ns (least_above p x n h (All-head P n ns all)) (All-tail P n ns all)
+pub horizon_above : (p x : ℕ) (ns : List WorldNode) → x ≤ p → All (λ (n : WorldNode). n.excluded ≡ false → x ≤ n.taken) ns → x ≤ horizon p (taken_floors ns)
+horizon_above p x ns h all =
+    least_above p x (taken_floors ns) h
+    (All-map (λ k. x ≤ k) (λ (n : WorldNode). n.taken) (filter is_counted ns)
+    (λ k d l.
+    All-filter is_counted (λ (n : WorldNode). n.excluded ≡ false → x ≤ n.taken) ns all k d l
+    (not_true (filter_passes is_counted ns k d l))))

@@ -1,19 +1,19 @@
 -- Freeing what was dropped up to the horizon keeps a world sound, and frees exactly that.
-use Rattle.std.proofs.Common.{◌≡◌, ℕ, zero, suc, ◌+◌, ◌-◌, ◌<◌, ◌≤◌, true, false, nat_le, max, ◌++◌, length, drop, get_or, refl, ap, ◌∙◌, arith}
+use Rattle.std.proofs.Common.{◌≡◌, ℕ, zero, suc, ◌+◌, ◌-◌, ◌<◌, ◌≤◌, true, false, nat_le, max, ◌++◌, length, drop, refl, ap, ◌∙◌, arith}
 use Rattle.std.specs.List.{filter, range_with_len}
-use Rattle.std.proofs.lemmas.List.{get_or-drop, length-drop}
 use Rattle.iq_world.specs.declared.worlds.World.{World}
-use Rattle.iq_world.specs.declared.worlds.WorldNode.{WorldNode}
 use Rattle.iq_world.specs.declared.worlds.Reach.{Reach}
 use Rattle.iq_world.specs.declared.worlds.WorldStep.TheVariants.{TakeReport}
-use Rattle.iq_world.specs.World.{times, node_at, no_node, latest_of, report_of}
+use Rattle.iq_world.specs.World.{times, node_at, latest_of, report_of}
 use Rattle.iq_world.specs.Floors.{floor_of, horizon_of}
 use Rattle.iq_world.specs.Space.{roots, dropped_after, waiting, times_free, times_loose, times_bound}
 use Rattle.iq_world.specs.Steps.{possible, with_taken, reclaimed_to, reclaimed, report_taken}
 use Rattle.iq_world.specs.Sound.{NodeFits, IsSound}
-use Rattle.iq_world.specs.Laws.{Reclaims}
-use Rattle.iq_world.proofs.Times.{times-append, times-put_all}
-use Rattle.iq_world.proofs.Lows.{low_le, horizon_le, horizon_below}
+use Rattle.iq_world.specs.Laws.{Reclaims, NeverFalls, KeepsReach}
+use Rattle.iq_world.proofs.Counts.{free-with_node}
+use Rattle.iq_world.proofs.Times.{times-append, times-put_all, length-put_all}
+use Rattle.iq_world.proofs.Lows.{low_le, horizon_le}
+use Rattle.iq_world.proofs.Past.{horizon_taken}
 use Rattle.iq_world.proofs.Kept.{reach_of-kept, dropped_after-agree, commits-kept}
 use Rattle.iq_world.proofs.Drops.{dropped_after-add}
 use Rattle.iq_world.proofs.Moving.{sent_is, good_taken}
@@ -23,12 +23,7 @@ use Rattle.iq_world.proofs.Rising.{runs_refit, reports_refit, versions_hold, Goo
 horizon_low : (w : World) (i : ℕ) → i < length w.nodes → (node_at w i).excluded ≡ false → NodeFits w i → horizon_of w ≤ floor_of w i
 horizon_low w zero h e f = horizon_le (floor_of w 0) (drop 1 w.nodes)
 horizon_low w (suc i) h e f =
-    let there : get_or (drop 1 w.nodes) i no_node ≡ node_at w (1 + i) = get_or-drop 1 w.nodes i no_node in
-    let at : 1 + i ≡ suc i = omega arith in
-    let same : get_or (drop 1 w.nodes) i no_node ≡ node_at w (suc i) = there ∙ ap (node_at w) at in
-    let within : i < length (drop 1 w.nodes) = omega (arith, length-drop 1 w.nodes) in
-    let low = horizon_below (floor_of w 0) (drop 1 w.nodes) i no_node within (ap (λ (n : WorldNode). n.excluded) same ∙ e) in
-    let taken = ap (λ (n : WorldNode). n.taken) same in
+    let low = horizon_taken w (suc i) (omega arith) h e in
     let own = f.taken in omega arith
 
 -- what waits is what was dropped up to a commit and what was dropped after it
@@ -104,15 +99,26 @@ reclaims w =
     record {
       base = refl;
       free = λ b. times-put_all b w.free (dropped_after w.reach w.base (max w.base (horizon_of w) - w.base));
+      count = length-put_all w.free (dropped_after w.reach w.base (max w.base (horizon_of w) - w.base));
+      reach = refl;
       reserved = refl;
       private = refl;
     }
+
+-- nothing falls by it, and what both worlds keep is as it was
+rises_reclaimed : (w : World) → NeverFalls w (reclaimed w)
+rises_reclaimed w =
+    record { nodes = refl; latest = omega arith; floor = λ i h. omega arith; taken = λ i h. omega arith; horizon = omega arith; base = omega arith }
+
+reach_reclaimed : (w : World) → KeepsReach w (reclaimed w)
+reach_reclaimed w c low kept made = reach_of-kept w.reach (max w.base (horizon_of w)) c kept
 
 held_reclaimed : (w : World) (b : ℕ) → times_free w b ≤ times_loose (reclaimed w) b
 held_reclaimed w b = omega (arith, times-put_all b w.free (dropped_after w.reach w.base (max w.base (horizon_of w) - w.base)))
 
 pub good_own : (w : World) → IsSound w → Good w (reclaimed w)
-good_own w g = record { sound = sound_reclaimed w g; held = held_reclaimed w }
+good_own w g =
+    record { sound = sound_reclaimed w g; held = held_reclaimed w; rises = rises_reclaimed w; reach = reach_reclaimed w }
 
 pub good_report_taken : (w : World) (k : ℕ) → possible w (TakeReport k) ≡ true → IsSound w → Good w (report_taken w k)
 good_report_taken w k can g =
@@ -120,4 +126,13 @@ good_report_taken w k can g =
     let sent = sent_is w k can g in
     let up = good_taken w p.node p.floor sent.0.secondary sent.0.known sent.1 g in
     let u = with_taken p.node p.floor w in
-    record { sound = sound_reclaimed u up.0; held = λ b. (let same = up.1 b in let held = held_reclaimed u b in omega arith) }
+    let free = λ (b : ℕ). free-with_node b w p.node (record (node_at w p.node) { taken = max (node_at w p.node).taken p.floor }) sent.0.known refl in
+    let rises = up.rises in
+    let latest = rises.latest in
+    let horizon = rises.horizon in
+    record {
+      sound = sound_reclaimed u up.sound;
+      held = λ b. (let same = free b in let held = held_reclaimed u b in omega arith);
+      rises = record { nodes = rises.nodes; latest = rises.latest; floor = rises.floor; taken = rises.taken; horizon = rises.horizon; base = omega arith };
+      reach = λ c low kept made. reach_of-kept w.reach (max w.base (horizon_of u)) c kept;
+    }

@@ -12,7 +12,7 @@ use Rattle.iq_world.specs.Laws.{FillsTheStore}
 use Rattle.iq_world.proofs.Times.{as_one, times-cons, times-append, times-less, held_place, unheld_times}
 
 -- what stands in a list is held by it
-stands_held : (b : ℕ) (xs : List ℕ) → 0 < times b xs → holds xs b ≡ true
+pub stands_held : (b : ℕ) (xs : List ℕ) → 0 < times b xs → holds xs b ≡ true
 stands_held b xs h =
     let P : Bool → Type 0 = λ t. holds xs b ≡ t → holds xs b ≡ true in
     (elim (holds xs b) as P [ true ↦ λ e. e | false ↦ λ e. absurd (let z = unheld_times b xs e in omega arith) ]) refl

@@ -1,7 +1,8 @@
 -- How often a number stands in lists that are made of others.
 use Rattle.std.proofs.Common.{◌≡◌, ℕ, ◌+◌, ◌==◌, ◌<◌, ◌≤◌, Bool, true, false, cond, not, nat_lt, List, [], ◌∷◌, ◌++◌, length, take, drop, get_or, refl, sym, ap, ◌∙◌, ⊎_elim, arith}
 use Rattle.std.specs.List.{flat_map, sum_by, position_or_len}
-use Rattle.std.proofs.lemmas.List.Sums.{sum_by-cons, sum_by-append, sum_by-take-drop, sum_by-insert, sum_by-remove, passes_at_first}
+use Rattle.std.proofs.lemmas.List.Sums.{sum_by-cons, sum_by-append, sum_by-take-drop, sum_by-insert, sum_by-remove, prefix_len-le-length, passes_at_first}
+use Rattle.std.proofs.lemmas.List.Edits.{length-insert}
 use Rattle.std.proofs.lemmas.Bool.{eqb-true, false≢true}
 use Rattle.std.proofs.lemmas.Bool.Decides.{eqb_tells}
 use Rattle.iq_world.specs.World.{times, holds, without, put, put_all}
@@ -42,6 +43,13 @@ pub times-put_all : (b : ℕ) (xs ys : List ℕ) → times b (put_all xs ys) ≡
 times-put_all b xs [] = omega arith
 times-put_all b xs (y ∷ ys) =
     omega (arith, times-put_all b (put xs y) ys, times-put b xs y, times-cons b y ys)
+
+-- how long a list is with more numbers
+pub length-put_all : (xs ys : List ℕ) → length (put_all xs ys) ≡ length xs + length ys
+length-put_all xs [] = omega arith
+length-put_all xs (y ∷ ys) =
+    let at = position_or_len (λ x. nat_lt y x) xs in
+    omega (arith, length-put_all (put xs y) ys, length-insert xs at y (prefix_len-le-length (λ x. not (nat_lt y x)) xs))
 
 -- what is held stands at least once, and what isn't never
 pub held_times : (b : ℕ) (xs : List ℕ) → holds xs b ≡ true → 0 < times b xs

@@ -5,3 +5,5 @@ pub mod Steps
 pub mod Sound
 pub mod Opening
 pub mod Laws
+pub mod Makes
+pub mod Plain

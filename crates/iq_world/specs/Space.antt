@@ -12,14 +12,14 @@ abbrev pub reach_of : List Reach → ℕ → List ℕ
 reach_of [] c = []
 reach_of (r ∷ rs) c = if r.commit == c then r.blocks else reach_of rs c
 
--- the blocks dropped at the commit after c: those that c reaches and the next commit doesn't
+-- the blocks dropped at commit c: those that the commit before it reaches and c doesn't
 abbrev pub dropped : List Reach → ℕ → List ℕ
-dropped rs c = without (reach_of rs c) (reach_of rs (c + 1))
+dropped rs c = without (reach_of rs (c - 1)) (reach_of rs c)
 
 -- the blocks dropped at the n commits after c
 abbrev pub dropped_after : List Reach → ℕ → ℕ → List ℕ
 dropped_after rs c zero = []
-dropped_after rs c (suc n) = dropped rs c ++ dropped_after rs (c + 1) n
+dropped_after rs c (suc n) = dropped rs (c + 1) ++ dropped_after rs (c + 1) n
 
 -- the waiting blocks: those dropped at the commits after the base
 abbrev pub waiting : World → List ℕ

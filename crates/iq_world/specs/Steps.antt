@@ -7,7 +7,7 @@ use Rattle.iq_world.specs.declared.worlds.WorldRun.{WorldRun}
 use Rattle.iq_world.specs.declared.worlds.Reach.{Reach}
 use Rattle.iq_world.specs.declared.worlds.WorldStep.{WorldStep}
 use Rattle.iq_world.specs.declared.worlds.WorldStep.TheVariants.{Begin, Reserve, Take, Back, Commit, End, Sync, Apply, Send, Lose, TakeReport, Own, Restart, Exclude, Include}
-use Rattle.iq_world.specs.World.{times, holds, without, put_all, node_at, is_node, is_included, is_secondary, latest_of, run_place, is_running, run_of, report_place, is_sent, report_of}
+use Rattle.iq_world.specs.World.{times, holds, without, put_all, node_at, is_node, is_included, is_secondary, latest_of, run_place, is_running, run_of, report_place, is_sent, report_of, runs_on}
 use Rattle.iq_world.specs.Floors.{floor_of, horizon_of}
 use Rattle.iq_world.specs.Space.{reach_of, dropped_after}
 
@@ -39,7 +39,7 @@ sent_home n blocks w =
     let node = node_at w n in
     record w {
       free = if n == 0 then put_all w.free blocks else w.free;
-      nodes = if n == 0 then w.nodes else slice_set w.nodes n (record node { reserved = node.reserved ++ blocks });
+      nodes = if n == 0 then w.nodes else slice_set w.nodes n (record node { reserved = put_all node.reserved blocks });
     }
 
 -- a list without the first of a number
@@ -62,10 +62,6 @@ with_private s blocks w = record w { runs = slice_set w.runs (run_place w s) (re
 -- without a session's run
 abbrev pub without_run : ℕ → World → World
 without_run s w = record w { runs = remove w.runs (run_place w s) }
-
--- whether a run is on a node
-abbrev pub runs_on : ℕ → WorldRun → Bool
-runs_on n r = r.node == n
 
 -- the blocks in a node's reservation, and its runs' private ones
 abbrev pub held_by : World → ℕ → List ℕ
@@ -108,7 +104,7 @@ abbrev pub can_end : World → ℕ → Bool
 can_end w n = is_secondary w n && can_rise (node_at w n).incarnation
 
 -- Whether a step is possible.
-abbrev pub possible : World → WorldStep → Bool
+unfoldable pub possible : World → WorldStep → Bool
 possible w (Begin s n) = not (is_running w s) && is_included w n
 possible w (Reserve n) = is_secondary w n && (length (node_at w n).reserved == 0) && not (length w.free == 0)
 possible w (Take s b) = is_running w s && holds (home w (run_of w s).node) b
@@ -198,7 +194,7 @@ abbrev pub node_included : World → ℕ → World
 node_included w n = with_node n (record (node_at w n) { position = latest_of w; taken = latest_of w; excluded = false }) w
 
 -- what a step changes where it is possible
-abbrev pub change : World → WorldStep → World
+unfoldable pub change : World → WorldStep → World
 change w (Begin s n) = begun w s n
 change w (Reserve n) = reserving w n
 change w (Take s b) = taking w s b
@@ -216,7 +212,7 @@ change w (Exclude n) = node_excluded w n
 change w (Include n) = node_included w n
 
 -- the world after a step, which changes nothing where it isn't possible
-abbrev pub after : World → WorldStep → World
+unfoldable pub after : World → WorldStep → World
 after w step = if possible w step then change w step else w
 
 -- the world after all steps, one after the other

@@ -50,6 +50,10 @@ is_secondary w n = nat_lt 0 n && is_included w n
 abbrev pub latest_of : World → ℕ
 latest_of w = (node_at w 0).position
 
+-- whether a run is on a node
+abbrev pub runs_on : ℕ → WorldRun → Bool
+runs_on n r = r.node == n
+
 -- the place of a session's run, or the number of runs where it doesn't run
 abbrev pub run_place : World → ℕ → ℕ
 run_place w s = position_or_len (λ (r : WorldRun). r.session == s) w.runs

@@ -1,8 +1,8 @@
 //! Whether a step is possible, the world after it, and the world after all steps.
-ghost use Rattle.std.specs.Prelude.{◌≡◌, ◌<◌, length, IfOk, true};
+ghost use Rattle.std.specs.Prelude.{◌≡◌, ℕ, ◌<◌, length, IfOk, true};
 ghost use Rattle.iq_world.specs.Steps.{possible, change, after, after_all, can_commit, can_end};
 ghost use Rattle.iq_world.specs.Sound.{IsSound};
-ghost use Rattle.iq_world.specs.Laws.{EachStep};
+ghost use Rattle.iq_world.specs.Laws.{EachStep, WaitsSince, IsFreedInTime, KeepsLive};
 
 use crate::lists::{are_distinct, are_from, holds};
 use crate::space::reach_of;
@@ -34,6 +34,7 @@ impl World {
     }
 
     /// Whether a step is possible.
+    #[tactic(auto, unfolding(crate::specs::Steps::possible))]
     pub fn allows(&self, step: &WorldStep) -> bool
         ensures { result ≡ possible self.now step.now }
     {
@@ -70,6 +71,7 @@ impl World {
 }
 
 /// What a possible step changes.
+#[tactic(auto, unfolding(crate::specs::Steps::possible, crate::specs::Steps::change))]
 fn changed(alloc: Global, world: World, step: &WorldStep) -> Result<World, NoMemory>
     requires sound { IsSound world }
     requires possible { possible world step.now ≡ true }
@@ -97,6 +99,7 @@ fn changed(alloc: Global, world: World, step: &WorldStep) -> Result<World, NoMem
 }
 
 /// The world after a step, as it was where the step isn't possible.
+#[tactic(auto, unfolding(crate::specs::Steps::after))]
 pub fn after(alloc: Global, world: World, step: &WorldStep) -> Result<World, NoMemory>
     requires { IsSound world }
     ensures after { IfOk result (λ w. w ≡ after world step.now) }
@@ -116,6 +119,8 @@ pub fn world_law(alloc: Global, first: World, steps: &[WorldStep]) -> Result<Wor
     ensures fold { IfOk result (λ w. w ≡ after_all first steps.now) }
     ensures sound { IfOk result (λ w. IsSound w) }
     ensures each { EachStep first steps.now }
+    ensures in_time { (b c : ℕ) → WaitsSince first b c → IsFreedInTime first b c }
+    ensures live { KeepsLive first }
 {
     let mut world = first;
     for step in steps {

@@ -103,7 +103,7 @@ pub fn sent_home(alloc: Global, world: World, node: u32, blocks: &[u32]) -> Resu
         return freed(world, blocks);
     }
     let mut all = Vec::from_slice(alloc, world.node(node).reserved.as_slice())?;
-    all.extend_from_slice(blocks)?;
+    put_all(&mut all, blocks)?;
     Ok(with_reserved(world, node, all))
 }
 

@@ -3,7 +3,8 @@ ghost use Rattle.std.specs.Prelude.{◌≡◌, ◌<◌, nat_le, length, IfOk, no
 ghost use Rattle.std.specs.List.{filter, flat_map};
 ghost use Rattle.iq_world.specs.declared.worlds.WorldRun.{WorldRun};
 ghost use Rattle.iq_world.specs.declared.worlds.Reach.{Reach};
-ghost use Rattle.iq_world.specs.Steps.{runs_on, held_by, cleared, reclaimed};
+ghost use Rattle.iq_world.specs.World.{runs_on};
+ghost use Rattle.iq_world.specs.Steps.{held_by, cleared, reclaimed};
 
 use crate::parts::freed;
 use crate::space::dropped_between;

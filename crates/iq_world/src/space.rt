@@ -19,12 +19,12 @@ pub fn reach_of(kept: &[Reach], commit: u64) -> &[u32]
     &[]
 }
 
-/// The blocks dropped at the commit after this one.
+/// The blocks dropped at a commit.
 fn dropped(alloc: Global, kept: &[Reach], commit: u64) -> Result<Vec<u32>, NoMemory>
-    requires { commit + 1 < 2 ^ 64 }
+    requires { 0 < commit }
     ensures { IfOk result (λ v. v.items ≡ dropped kept.now commit) }
 {
-    without(alloc, reach_of(kept, commit), reach_of(kept, commit + 1))
+    without(alloc, reach_of(kept, commit - 1), reach_of(kept, commit))
 }
 
 /// The blocks dropped at the commits after one and up to another.
@@ -38,7 +38,7 @@ pub fn dropped_between(
 {
     let mut all = Vec::new(alloc);
     for commit in from..to {
-        let more = dropped(alloc, kept, commit)?;
+        let more = dropped(alloc, kept, commit + 1)?;
         all.extend_from_slice(more.as_slice())?;
     }
     Ok(all)

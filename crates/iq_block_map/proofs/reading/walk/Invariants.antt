@@ -5,7 +5,7 @@ use Rattle.iq_block_map.proofs.reading.walk.Given as goal
 
 abbrev pub invariant-loop-k : goal.invariant-loop-k
 invariant-loop-k g l = record {
-  looked : HasLooked g.D.Device.blocks g.D.Device.faults g.D.Device.tells g.D.Device.clock g.D.Device.image l.fn.disk l.disk;
+  looked : HasLooked g.D.Device l.fn.disk l.disk;
   so_far : (all : List (List ℕ)) → g.D.Device.blocks l.fn.disk ≡ Some all
       → joined (Ok l.blocks.items) (listed l.maps all (l.object.pages - 252 * l.k) (drop l.k (take (leaf_count l.object.pages) l.leaves)))
       ≡ walked l.maps all l.object;

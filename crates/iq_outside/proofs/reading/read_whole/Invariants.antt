@@ -1,13 +1,13 @@
-use Rattle.std.proofs.Common.{◌<◌, ◌≤◌, ◌-◌, vec_len}
+use Rattle.std.proofs.Common.{◌≡◌, ◌<◌, ◌≤◌, ◌-◌, vec_len}
 use Rattle.iq_outside.specs.Streams.{Takes}
 use Rattle.iq_outside.proofs.reading.read_whole.Given as goal
 
 abbrev pub invariant-reading : goal.invariant-reading
 invariant-reading g l = record {
-  room : 0 < vec_len l.piece;
+  some : 0 < vec_len l.piece;
   short : vec_len l.whole ≤ l.most;
   taken : Takes l.whole.items (g.I.Source.left l.fn.source) (g.I.Source.left l.source);
-  later : g.I.Source.faults l.fn.source ≤ g.I.Source.faults l.source;
+  calm : g.I.Source.faults l.source ≡ g.I.Source.faults l.fn.source;
 }
 
 abbrev pub decreases-reading : goal.decreases-reading

@@ -1,4 +1,4 @@
-use Rattle.std.proofs.Common.{◌-◌, ◌≤◌, length, take}
+use Rattle.std.proofs.Common.{◌≡◌, ◌-◌, ◌≤◌, length, take}
 use Rattle.iq_outside.specs.Streams.{Grows}
 use Rattle.iq_outside.proofs.writing.write_all.Given as goal
 
@@ -6,7 +6,7 @@ abbrev pub invariant-writing : goal.invariant-writing
 invariant-writing g l = record {
   within : l.at ≤ length l.bytes;
   grown : Grows (take l.at l.bytes) (g.O.Sink.written l.fn.sink) (g.O.Sink.written l.sink);
-  later : g.O.Sink.faults l.fn.sink ≤ g.O.Sink.faults l.sink;
+  calm : g.O.Sink.faults l.sink ≡ g.O.Sink.faults l.fn.sink;
 }
 
 abbrev pub decreases-writing : goal.decreases-writing

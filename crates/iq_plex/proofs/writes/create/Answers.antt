@@ -7,11 +7,7 @@ use Rattle.iq_plex.proofs.writes.create.Goals as goal
 
 pub returns-clause-ok : goal.returns-clause-ok
 returns-clause-ok c = λ db stand.
-    let here = subst (λ (ss : List Stored). StandFor ss db) (sym c.as_slice.ensures.value) stand in
     let new = empty_table c.args.name.now c.args.columns.now in
-    let place = c.before-place.ensures.place ∙ ap (before_from 0 c.args.name.now) c.as_slice-2.ensures.value in
-    let items = c.in_ok-insert.ensures.items in (
-      sym (c.check_create.ensures db here) ∙ c.in_default.is,
-      subst (λ (ss : List Stored). StandFor ss (placed new db)) (sym items)
-          (rw place (placed-stand c.args.tables.now.items db c.in_ok-stored.stored new stand c.in_ok-stored.ensures)),
-    )
+    let place = c.before-place.ensures.place ∙ ap (before_from 0 c.args.name.now) c.as_slice.ensures.value in
+    subst (λ (ss : List Stored). StandFor ss (placed new db)) (sym c.in_ok-insert.ensures.items)
+    (rw place (placed-stand c.args.tables.now.items db c.in_ok-stored.stored new stand c.in_ok-stored.ensures))

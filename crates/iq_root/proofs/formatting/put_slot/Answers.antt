@@ -1,6 +1,6 @@
 use Rattle.std.proofs.Common.{ap, arith}
-use Rattle.iq_block_store.specs.Frames.{framed}
-use Rattle.iq_root.specs.Roots.{body_kind, gate_kind, body_place, gate_place}
+use Rattle.iq_block_store.specs.Frames.{framed, body_kind, gate_kind}
+use Rattle.iq_root.specs.Roots.{body_place, gate_place}
 use Rattle.iq_root.proofs.StepLemmas.{stored_long, stored_long_ok, slot_put}
 use Rattle.iq_root.proofs.formatting.put_slot.Goals as goal
 

@@ -1,4 +1,4 @@
-use Rattle.std.proofs.Common.{◌≡◌, sym, refl, subst}
+use Rattle.std.proofs.Common.{sym, subst}
 use Rattle.iq_ast.specs.declared.statements.Statement.TheVariants as statements
 use Rattle.iq_plex.specs.Plex.{PlexState, CanRefuseLine, state_of}
 use Rattle.iq_run.proofs.Walk.{begun_of, can_refuse_select}

@@ -1,4 +1,4 @@
-use Rattle.std.proofs.Common.{◌≡◌, ◌<◌, ◌++◌, ◌∷◌, [], List, subst, sym, refl, drop, ◌+◌}
+use Rattle.std.proofs.Common.{List, subst, sym, drop, ◌+◌}
 use Rattle.iq_model.specs.declared.replies.Reply.{Reply}
 use Rattle.iq_run.specs.Runs.{RunsLines}
 use Rattle.iq_run.proofs.Walk.{run_more, grammar_more}

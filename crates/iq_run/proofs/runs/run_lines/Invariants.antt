@@ -1,4 +1,4 @@
-use Rattle.std.proofs.Common.{◌≡◌, drop}
+use Rattle.std.proofs.Common.{drop}
 use Rattle.std.specs.List.{AllByRecursion}
 use Rattle.iq_model.specs.Scripts.{IsRunnableLine}
 use Rattle.iq_run.specs.Runs.{RunsLines}

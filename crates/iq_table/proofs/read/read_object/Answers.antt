@@ -2,7 +2,7 @@ use Rattle.std.proofs.Common.{◌≡◌, ◌<◌, ◌∙◌, ◌-◌, ◌*◌, m
 use Rattle.std.specs.Int.{div_ceil}
 use Rattle.std.proofs.lemmas.Result.{err_from_is_err_and}
 use Rattle.std.proofs.lemmas.List.{take_all}
-use Rattle.iq_base.proofs.PageLaws.{reads_on}
+use Rattle.iq_pages.proofs.PageLaws.{counts_on}
 use Rattle.iq_table.specs.Layout.{per_page}
 use Rattle.iq_table.proofs.ReadLemmas.{step_read, begins_below, ends_above, column_cause}
 use Rattle.iq_table.proofs.read.read_object.Goals as goal
@@ -18,7 +18,7 @@ loop-p-preserved g c =
       read = λ values e h. step_read c.args.kind _ values c.loop-p.p c.min-here.result _ _ h (rw e begins) (rw e here) (c.loop-p.invariant.read values e h) (rw c.loop-p.invariant.told at c.in_ok-read_page.ensures.ok);
       told = c.read_page.ensures.told ∙ c.loop-p.invariant.told;
       counts = c.read_page.ensures.counts ∙ c.loop-p.invariant.counts;
-      reads = reads_on c.loop-p.p 1 _ _ _ c.loop-p.invariant.reads c.in_ok-read_page.ensures.reads;
+      reads = counts_on c.loop-p.p 1 _ _ _ c.loop-p.invariant.reads c.in_ok-read_page.ensures.reads;
       later = omega arith;
     }
 

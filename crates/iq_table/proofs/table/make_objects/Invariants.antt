@@ -1,6 +1,6 @@
 use Rattle.std.proofs.Common.{◌≡◌, ◌<◌, ◌≤◌, ℕ, []}
 use Rattle.std.specs.Option.{option_map}
-use Rattle.iq_base.specs.Pages.{Pages}
+use Rattle.iq_pages.specs.Pages.{Pages}
 use Rattle.iq_table.specs.Table.{KeepsTheRest, object_of}
 use Rattle.iq_table.proofs.table.make_objects.Given as goal
 

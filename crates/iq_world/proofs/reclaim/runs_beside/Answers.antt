@@ -1,7 +1,7 @@
 use Rattle.std.proofs.Common.{not, rules, tests}
 use Rattle.std.proofs.lemmas.Fn.{filter_same}
 use Rattle.iq_world.specs.declared.worlds.WorldRun.{WorldRun}
-use Rattle.iq_world.specs.Steps.{runs_on}
+use Rattle.iq_world.specs.World.{runs_on}
 use Rattle.iq_world.proofs.reclaim.runs_beside.Goals as goal
 
 pub returns : goal.returns

@@ -9,7 +9,7 @@ loop-commit-preserved c =
     let from = c.args.from in
     let k = c.loop-commit.commit - from in
     let more : suc k ≡ c.loop-commit.commit + 1 - from = omega arith in
-    let at : c.loop-commit.commit ≡ from + k = omega arith in
+    let at : c.loop-commit.commit + 1 ≡ from + k + 1 = omega arith in
     record {
       so_far =
           c.in_ok-extend_from_slice.ensures.items ∙ ap (λ (xs : List ℕ). xs ++ c.as_slice.result.now) c.loop-commit.invariant.so_far

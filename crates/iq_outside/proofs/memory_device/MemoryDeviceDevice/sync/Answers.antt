@@ -1,8 +1,7 @@
-use Rattle.iq_outside.specs.Records.{Taped}
 use Rattle.iq_outside.proofs.DeviceLemmas.{counts_call, has_synced}
 use Rattle.iq_outside.proofs.memory_device.MemoryDeviceDevice.sync.Goals as goal
 
 pub returns-clause-synced : goal.returns-clause-synced
-returns-clause-synced c = rw (← c.self.view_is) (has_synced (λ (d : Taped). d.kept) (λ (d : Taped). d.plan.faults)
+returns-clause-synced c = rw (← c.self.view_is) (has_synced _ _
     c.sync.result c.counted.result _ _ c.counted.ensures.variant c.sync.ensures.adds c.sync.ensures.err
     (counts_call c.counted.result _ _ _ c.call.ensures.later c.counted.ensures.later c.counted.ensures.fault))

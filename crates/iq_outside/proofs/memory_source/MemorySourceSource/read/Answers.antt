@@ -6,4 +6,4 @@ returns-clause-front c =
     rw (← c.self.view_is) (reads-drop _ _ _ _ _ _ _
     (rw (c.split_at.ensures.back, c.deref.ensures.value) at c.copy_front-n.ensures.count)
     (rw (c.split_at.ensures.back, c.deref.ensures.value) at c.copy_front-n.ensures.front)
-    c.call.ensures.later)
+    c.in_ok-call.ensures.calm)

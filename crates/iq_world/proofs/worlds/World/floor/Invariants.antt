@@ -1,7 +1,7 @@
 use Rattle.std.proofs.Common.{◌≡◌, take}
 use Rattle.std.specs.List.{fold}
 use Rattle.iq_world.specs.World.{node_at}
-use Rattle.iq_world.specs.Floors.{lower}
+use Rattle.iq_world.proofs.Lows.{lower}
 use Rattle.iq_world.proofs.worlds.World.floor.Given as goal
 
 abbrev pub invariant-loop-run : goal.invariant-loop-run

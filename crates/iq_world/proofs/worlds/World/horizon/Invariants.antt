@@ -1,6 +1,7 @@
 use Rattle.std.proofs.Common.{◌≡◌, take}
 use Rattle.std.specs.List.{fold}
-use Rattle.iq_world.specs.Floors.{floor_of, lower_taken}
+use Rattle.iq_world.specs.Floors.{floor_of}
+use Rattle.iq_world.proofs.Lows.{lower_taken}
 use Rattle.iq_world.proofs.worlds.World.horizon.Given as goal
 
 abbrev pub invariant-loop-node : goal.invariant-loop-node

@@ -1,0 +1,4 @@
+pub mod MemoryPages
+pub mod MemoryView
+pub mod PageCalls
+pub mod Pages
