@@ -5,9 +5,8 @@ use Rattle.std.proofs.Common.{refl, sym, ap, subst, ◌∙◌, inl, inr, arith, 
 use Rattle.std.proofs.lemmas.List.{get_or_append_left, get_or-append_right}
 use Rattle.std.proofs.lemmas.Bool.{cases_lt}
 use Rattle.iq_outside.specs.Devices.{block_of}
-use Rattle.iq_block_store.specs.Frames.{has_header, payload_of}
+use Rattle.iq_block_store.specs.Frames.{page_kind, has_header, payload_of}
 use Rattle.iq_base.specs.declared.refs.Ref.{Ref}
-use Rattle.iq_block_map.specs.Maps.{page_kind}
 use Rattle.iq_block_map.specs.Objects.{leaf_count, map_at, leaves_of, listed, listed_in, joined, top_of, walked, address_of, addresses_of, blocks_of, contents}
 use Rattle.iq_block_map.specs.Writing.{holds}
 use Rattle.iq_block_map.specs.Editing.{AreApart}

@@ -1,18 +1,17 @@
 -- One page written: what a put and an edit after it did together.
-use Rattle.std.specs.Prelude.{◌≡◌, ℕ, zero, suc, ◌+◌, ◌-◌, ◌^◌, ◌<◌, ◌≤◌, Bool, false, List, [], ◌∷◌, ◌++◌, length, nat_eq, slice_index, slice_index_or, slice_set, Ok, IsOk, is_ok, Option, Some}
+use Rattle.std.specs.Prelude.{◌≡◌, ℕ, zero, suc, ◌+◌, ◌-◌, ◌^◌, ◌<◌, ◌≤◌, Bool, false, List, [], ◌∷◌, ◌++◌, length, nat_eq, slice_index, slice_index_or, slice_set, Ok, is_ok, Option, Some}
 use Rattle.std.specs.List.{All, IsDistinct}
 use Rattle.std.proofs.Common.{refl, sym, ap, subst, ◌∙◌, inl, inr, arith, append-nil, get_or-set_same}
 use Rattle.iq_outside.specs.Devices.{block_of}
 use Rattle.iq_outside.specs.declared.device.Device.{Ghosts}
-use Rattle.iq_block_store.specs.Frames.{framed, has_header, payload_of}
+use Rattle.iq_block_store.specs.Frames.{page_kind, framed, has_header, payload_of}
 use Rattle.iq_block_store.proofs.FrameLemmas.{has_header-framed, payload_of-framed}
 use Rattle.iq_base.specs.declared.refs.Ref.{Ref}
-use Rattle.iq_block_map.specs.Maps.{page_kind}
 use Rattle.iq_block_map.specs.Objects.{leaf_count, used_in, map_at, leaves_of, addresses_of, HoldsPage}
 use Rattle.iq_block_map.specs.Takers.{AreSpare}
 use Rattle.iq_block_map.specs.Writing.{holds, SameBeside, HasPut}
-use Rattle.iq_block_map.specs.Editing.{piece, edited, maps_needed, AreApart, StandsApart, StandsWhole, ReadsRight, IsBadMap, TellsBadMap, NeedsMap, LacksMaps, HasEdited}
-use Rattle.iq_block_map.specs.Paging.{Paging, replacing, appending, put_first, PutsPage, HasPaged, TellsBadPaged, LacksPaging}
+use Rattle.iq_block_map.specs.Editing.{edited, maps_needed, AreApart, StandsApart, StandsWhole, ReadsRight, IsBadMap, TellsBadMap, NeedsMap, LacksMaps, HasEdited}
+use Rattle.iq_block_map.specs.Paging.{Paging, replacing, appending, HasPaged, TellsBadPaged, LacksPaging}
 use Rattle.iq_block_map.proofs.PutLemmas.{first_inside, told_same, holds-append}
 use Rattle.iq_block_map.proofs.NextLemmas.{distinct_parts}
 use Rattle.iq_block_map.proofs.NamedLemmas.{all_set, all_append}

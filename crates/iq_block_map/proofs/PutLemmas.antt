@@ -5,7 +5,8 @@ use Rattle.std.proofs.Common.{refl, sym, ap, ◌∙◌, inl, inr, arith, append_
 use Rattle.std.proofs.lemmas.List.{take_at}
 use Rattle.std.proofs.lemmas.Bool.{eq-eqb, cases_lt, le-leb, lt-ltb}
 use Rattle.iq_outside.specs.declared.device.Device.{Ghosts}
-use Rattle.iq_outside.specs.Devices.{SameBut, KeepsPast, HasWritten, Stored}
+use Rattle.iq_outside.specs.Devices.{SameBut, Stored}
+use Rattle.iq_outside.specs.DeviceCalls.{KeepsPast, HasWritten}
 use Rattle.iq_outside.proofs.ImageLemmas.{SameBut-set}
 use Rattle.iq_block_store.specs.Looks.{HasLooked}
 use Rattle.iq_block_map.specs.Maps.{is_address}
@@ -54,7 +55,7 @@ beside_of_but at a b same = record {
 }
 
 -- no block was taken, and the device was only looked at
-pub put_none : {D : Type 0} (g : Ghosts D) (left : List ℕ) (old new : D) → HasLooked g.blocks g.faults g.tells g.clock g.image old new
+pub put_none : {D : Type 0} (g : Ghosts D) (left : List ℕ) (old new : D) → HasLooked g old new
     → HasPut g left left old new
 put_none g left old new looked =
     let none : taken_of left left ≡ [] = taken_front left [] left refl in
@@ -110,13 +111,13 @@ put_then g before mid after old between new first second =
           (two.0, two.1, rw both (beside_more xs ys all one.0 two.0 one.2 two.2));
       untold = λ never. second.untold (first.untold never);
       later = omega (arith, first.later, second.later);
-      past = past_then g.tells g.clock g.image old between new first.past second.past;
-      since = rw both (since_then g.clock g.image g.tells xs ys old between new first.past second.past first.since second.since);
+      past = past_then g old between new first.past second.past;
+      since = rw both (since_then g xs ys old between new first.past second.past first.since second.since);
     }
 
 -- a block was taken and written, well or not
 pub put_one : {D U E : Type 0} (g : Ghosts D) (at : ℕ) (block before after : List ℕ) (result : Result U E) (old new : D) → before ≡ at ∷ after
-    → HasWritten g.blocks g.faults g.tells g.clock g.image at block result old new → HasPut g before after old new
+    → HasWritten g at block result old new → HasPut g before after old new
 put_one g at block before after result old new is written =
     let one : taken_of before after ≡ at ∷ [] = taken_front before (at ∷ []) after is in
     record {
@@ -139,7 +140,7 @@ put_one g at block before after result old new is written =
         (failed.0, failed.1, beside_of_but at all failed.0 failed.2)
 
 -- a device that nothing was done to
-pub looked_same : {D : Type 0} (g : Ghosts D) (now : D) → HasLooked g.blocks g.faults g.tells g.clock g.image now now
+pub looked_same : {D : Type 0} (g : Ghosts D) (now : D) → HasLooked g now now
 looked_same g now = record {
   unchanged = refl;
   later = omega arith;
@@ -186,12 +187,12 @@ pub told_same : (old new : Option (List (List ℕ))) (now all : List (List ℕ))
 told_same old new now all same is told = cc
 
 -- looking once more
-pub looked_then : {D : Type 0} (g : Ghosts D) (old between new : D) → HasLooked g.blocks g.faults g.tells g.clock g.image old between
-    → HasLooked g.blocks g.faults g.tells g.clock g.image between new → HasLooked g.blocks g.faults g.tells g.clock g.image old new
+pub looked_then : {D : Type 0} (g : Ghosts D) (old between new : D) → HasLooked g old between
+    → HasLooked g between new → HasLooked g old new
 looked_then g old between new first second = record {
   unchanged = second.unchanged ∙ first.unchanged;
   later = omega (arith, first.later, second.later);
-  past = past_then g.tells g.clock g.image old between new first.past second.past;
+  past = past_then g old between new first.past second.past;
   since = λ t b since until left. elim (cases_lt (g.clock between) t) [
     | inl after ↦ first.since (g.clock between) b first.past.later (omega arith) (second.since t b (omega (arith, after)) until left)
     | inr early ↦ first.since t b since early (second.past.no_more t b early left)

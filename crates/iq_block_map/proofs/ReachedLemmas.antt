@@ -1,15 +1,13 @@
 -- What an object reaches that was made of another.
-use Rattle.std.specs.Prelude.{◌≡◌, ℕ, zero, suc, ◌+◌, ◌-◌, ◌<◌, ◌≤◌, min, Bool, true, false, ◌||◌, List, [], ◌∷◌, ◌++◌, length, drop, nat_eq, slice_index, slice_index_or, if◌then◌else◌, Result, Ok, Err}
+use Rattle.std.specs.Prelude.{◌≡◌, ℕ, suc, ◌-◌, ◌≤◌, min, Bool, true, false, ◌||◌, List, [], ◌∷◌, ◌++◌, length, drop, nat_eq, slice_index, slice_index_or, Result, Ok, Err}
 use Rattle.std.specs.List.{All, IsDistinct}
-use Rattle.std.proofs.Common.{refl, sym, ap, subst, ◌∙◌, inl, inr, arith, length-append}
-use Rattle.std.proofs.lemmas.List.{get_or-drop, length-drop}
-use Rattle.std.proofs.lemmas.Bool.{cases_lt, cases_eq, eq-eqb, ne_eqb, and_parts}
+use Rattle.std.proofs.Common.{refl, sym, ap, subst, ◌∙◌, inl, inr, arith}
+use Rattle.std.proofs.lemmas.Bool.{cases_lt, cases_eq, eq-eqb, ne_eqb}
 use Rattle.iq_base.specs.declared.refs.Ref.{Ref}
-use Rattle.iq_block_map.specs.Maps.{is_address}
 use Rattle.iq_block_map.specs.Objects.{leaf_count, map_at, leaves_of, listed, listed_in, joined, top_of, addresses_of, blocks_of}
 use Rattle.iq_block_map.specs.Takers.{taken_of}
 use Rattle.iq_block_map.specs.Writing.{holds}
-use Rattle.iq_block_map.specs.Editing.{fresh, AreApart, ReachesAmong, HasRemapped, SharesMaps}
+use Rattle.iq_block_map.specs.Editing.{fresh, AreApart, HasRemapped}
 use Rattle.iq_block_map.proofs.PutLemmas.{holds-append, taken_front}
 use Rattle.iq_block_map.proofs.StepLemmas.{both_parts, ok_is}
 use Rattle.iq_block_map.proofs.NextLemmas.{distinct_parts, behind_of}

@@ -5,9 +5,9 @@ use Rattle.std.proofs.Common.{refl, sym, ap, ◌∙◌, arith}
 use Rattle.std.proofs.lemmas.List.{get_or-take, length-take}
 use Rattle.std.proofs.lemmas.Bool.{ltb-true, leb-true, and_parts}
 use Rattle.iq_outside.specs.Devices.{block_of}
-use Rattle.iq_block_store.specs.Frames.{map_kind, has_header, payload_of}
+use Rattle.iq_block_store.specs.Frames.{page_kind, map_kind, has_header, payload_of}
 use Rattle.iq_block_map.specs.declared.map_bytes.RawMap.{RawMap}
-use Rattle.iq_block_map.specs.Maps.{page_kind, is_address, places, raw_map, is_right_map, IsRawMap}
+use Rattle.iq_block_map.specs.Maps.{is_address, places, raw_map, is_right_map, IsRawMap}
 use Rattle.iq_block_map.specs.Refs.{MayBe}
 use Rattle.iq_block_map.specs.Objects.{HoldsPage, map_at}
 use Rattle.iq_block_map.specs.Causes.{IsReadFault, IsWalkFault, IsEditFault, IsPutFault}

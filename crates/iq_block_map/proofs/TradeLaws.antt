@@ -1,21 +1,21 @@
 -- Laws of lists of blocks: what pages stand on, what an object reaches, and what one object has beside another.
-use Rattle.std.specs.Prelude.{◌≡◌, ℕ, zero, suc, ◌+◌, ◌-◌, ◌<◌, ◌≤◌, ◌==◌, min, Bool, true, false, List, [], ◌∷◌, ◌++◌, length, map, nat_eq, drop, slice_index, slice_set, if◌then◌else◌, Result, Ok, Err, Option, Some, None, cond}
+use Rattle.std.specs.Prelude.{◌≡◌, ℕ, suc, ◌+◌, ◌-◌, ◌≤◌, ◌==◌, min, Bool, true, false, List, [], ◌∷◌, ◌++◌, length, map, nat_eq, slice_set, if◌then◌else◌, Ok, Some, None, cond}
 use Rattle.std.specs.List.{All, list_all}
 use Rattle.std.proofs.Common.{refl, sym, ap, subst, ◌∙◌, inl, inr, arith}
 use Rattle.std.proofs.lemmas.List.Sums.{sum_by-cons, sum_by-append}
 use Rattle.std.proofs.lemmas.Bool.{cases_lt, cases_eq, eq-eqb, ne_eqb}
 use Rattle.iq_outside.specs.Devices.{block_of}
-use Rattle.iq_block_store.specs.Frames.{has_header, payload_of}
+use Rattle.iq_block_store.specs.Frames.{page_kind, has_header, payload_of}
 use Rattle.iq_base.specs.declared.refs.Ref.{Ref}
-use Rattle.iq_block_map.specs.Maps.{page_kind, is_address}
-use Rattle.iq_block_map.specs.Objects.{leaf_count, map_at, leaves_of, listed, listed_in, joined, top_of, addresses_of, blocks_of, contents}
+use Rattle.iq_block_map.specs.Maps.{is_address}
+use Rattle.iq_block_map.specs.Objects.{leaf_count, map_at, leaves_of, listed, listed_in, joined, top_of, addresses_of, contents}
 use Rattle.iq_block_map.specs.Editing.{replaced_from, edited, new_blocks, fresh}
 use Rattle.iq_block_map.specs.Laws.{times, ReachesParts, rewritten}
 use Rattle.iq_block_map.proofs.StepLemmas.{both_parts, ok_is}
 use Rattle.iq_block_map.proofs.NextLemmas.{behind_of}
 use Rattle.iq_block_map.proofs.NamedLemmas.{listed_names, map_names}
 use Rattle.iq_block_map.proofs.TopLemmas.{leaves_one, leaves_many, leaves_none, listed_from}
-use Rattle.iq_block_map.proofs.ReachLemmas.{HoldsIn, ArePages, pages_from, all_right, pages_set, cut_some}
+use Rattle.iq_block_map.proofs.ReachLemmas.{ArePages, pages_from, all_right, pages_set, cut_some}
 use Rattle.iq_block_map.proofs.FrameLaws.{same_right, same_contents, all_cons}
 use Rattle.iq_block_map.proofs.ReachedLemmas.{all_none, object_whole, leaves_exist}
 

@@ -154,10 +154,6 @@ pub record HasRemapped (all now : List (List ℕ)) (old new : Ref) (xs ys before
   pub reach : ReachesAmong all now old new ys (taken_of before after)
   pub apart : All (λ b. holds after b ≡ false) ys → AreApart now new after
 
--- it holds of the blocks of a device, where that tells them
-abbrev pub IsNowIn : (List (List ℕ) → Type 0) → Option (List (List ℕ)) → Type 0
-IsNowIn Holds told = (now : List (List ℕ)) → told ≡ Some now → Holds now
-
 -- an object was edited: the maps that were read are right, and where all are, it became one with the edited pages
 pub record HasEdited (told told_now : Option (List (List ℕ))) (object : Ref) (changed : List (ℕ × ℕ)) (added before after : List ℕ) (new : Ref) : Type 0 where
   pub read : 1 ≤ length changed + length added → (all : List (List ℕ)) → StandsApart told object before all

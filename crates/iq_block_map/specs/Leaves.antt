@@ -4,7 +4,7 @@ use Rattle.std.specs.List.{All}
 use Rattle.iq_base.specs.declared.refs.Ref.{Ref}
 use Rattle.iq_block_map.specs.Maps.{map_block}
 use Rattle.iq_block_map.specs.Objects.{leaf_count, used_in, map_at, listed}
-use Rattle.iq_block_map.specs.Refs.{MayBe}
+use Rattle.iq_block_map.specs.Refs.{MayBe, WhereTold}
 use Rattle.iq_block_map.specs.Writing.{holds}
 use Rattle.iq_block_map.specs.Editing.{piece, fresh, differing, edited, replaced_from, is_touched}
 
@@ -134,3 +134,36 @@ pub record NewTop (all now : List (List ℕ)) (old : Ref) (ls ms : List ℕ) (pa
 abbrev pub EndsTop : List (List ℕ) → List (List ℕ) → Ref → List ℕ → List ℕ → ℕ → ℕ → List ℕ → List ℕ → Type 0
 EndsTop all now old ls ms pages root before after =
     OnlyLeaf all now ms pages root before after ⊎ (SameTop all now old ls ms pages root before after ⊎ NewTop all now old ls ms pages root before after)
+
+-- no block is left for a topmost map that must be written
+abbrev pub LacksTop : Ref → ℕ → List ℕ → List ℕ → List ℕ → List ℕ → Type 0
+LacksTop old pages ls ms before after = (before ≡ []) × (after ≡ []) × (252 < pages) × (252 < old.pages → ms ≢ ls)
+
+-- what making one leaf, all leaves, and the topmost map does where the device tells its blocks
+abbrev pub RewritesLeaf : Option (List (List ℕ)) → Option (List (List ℕ)) → ℕ → ℕ → ℕ → List (ℕ × ℕ) → List ℕ → List ℕ → List ℕ → ℕ → Type 0
+RewritesLeaf told told_now used at first here more before after made =
+    (all : List (List ℕ)) (xs : List ℕ) → told ≡ Some all → leaf_at all used at ≡ Ok xs
+    → WhereTold told_now (λ now. EndsLeaf all now at made xs (replaced_from first xs here ++ more) before after)
+
+abbrev pub RewritesLeaves : Option (List (List ℕ)) → Option (List (List ℕ)) → Ref → List (ℕ × ℕ) → List ℕ → List ℕ → List ℕ → List ℕ → List ℕ → Type 0
+RewritesLeaves told told_now old changed added before after ls ms =
+    (all : List (List ℕ)) (xs : List ℕ) → told ≡ Some all → IsOpened all old ls xs before
+    → WhereTold told_now (λ now. HasLeaves all now ls ms xs (edited xs changed added) before after)
+
+abbrev pub MakesTop : Option (List (List ℕ)) → Option (List (List ℕ)) → Ref → List ℕ → List ℕ → ℕ → List ℕ → List ℕ → ℕ → Type 0
+MakesTop told told_now old ls ms pages before after root =
+    (all : List (List ℕ)) → told ≡ Some all → WhereTold told_now (λ now. EndsTop all now old ls ms pages root before after)
+
+-- the leaves that an edit touches were read right, where none of them may be taken
+abbrev pub ReadsTouched : Option (List (List ℕ)) → Ref → List ℕ → List (ℕ × ℕ) → List ℕ → List ℕ → Type 0
+ReadsTouched told old ls changed added before =
+    (all : List (List ℕ)) → told ≡ Some all → AreOpened all old ls before
+    → ReadsLeaves all old ls changed added (leaf_count (old.pages + length added))
+
+-- a leaf was read right, if it had to be read
+abbrev pub ReadsOne : Option (List (List ℕ)) → ℕ → ℕ → List (ℕ × ℕ) → List ℕ → Type 0
+ReadsOne told used at here more = 1 ≤ length here + length more → WhereTold told (λ all. IsOk (leaf_at all used at))
+
+-- a block isn't the leaf that is read there
+abbrev pub IsWrongLeaf : ℕ → ℕ → ℕ → List (List ℕ) → Type 0
+IsWrongLeaf used at block all = (block ≡ at) × (leaf_at all used at ≡ Err at)

@@ -5,10 +5,6 @@ use Rattle.iq_outside.specs.Devices.{block_of}
 use Rattle.iq_block_map.specs.declared.map_bytes.RawMap.{RawMap}
 use Rattle.iq_block_store.specs.Frames.{number_at, numbers_at, bytes_of, map_kind, has_header, framed}
 
--- the kind of a page
-abbrev pub page_kind : ℕ
-page_kind = 5
-
 -- the numbers of a map
 unfoldable pub places : List ℕ → List ℕ
 places block = numbers_at block 16 252

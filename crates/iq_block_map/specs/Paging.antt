@@ -1,10 +1,9 @@
 -- One page of an object written: it takes the place of another, or stands behind all.
 use Rattle.std.specs.Prelude.{◌≡◌, ◌⊎◌, ℕ, ◌+◌, ◌<◌, ◌≤◌, List, [], ◌∷◌, ◌++◌, length, slice_index, slice_set, Option, Some}
-use Rattle.iq_block_store.specs.Frames.{framed}
+use Rattle.iq_block_store.specs.Frames.{page_kind, framed}
 use Rattle.iq_base.specs.declared.refs.Ref.{Ref}
-use Rattle.iq_block_map.specs.Maps.{page_kind}
 use Rattle.iq_block_map.specs.Objects.{leaf_count, pages_of}
-use Rattle.iq_block_map.specs.Editing.{edited, maps_needed, AreApart, StandsApart, StandsWhole, ReadsRight, IsBadMap, NeedsMap, HasRemapped}
+use Rattle.iq_block_map.specs.Editing.{maps_needed, AreApart, StandsApart, StandsWhole, ReadsRight, IsBadMap, NeedsMap, HasRemapped}
 
 -- what a page written does: as an edit, by the block that the page is put in; to the list of blocks; and to the pages
 pub record Paging : Type 0 where

@@ -3,6 +3,10 @@ use Rattle.std.specs.Prelude.{◌≡◌, ℕ, ◌≤◌, ◌<◌, true, List, le
 use Rattle.iq_base.specs.declared.refs.Ref.{Ref}
 use Rattle.iq_block_map.specs.Maps.{are_places}
 
+-- it holds of the blocks of a device, where it tells them
+abbrev pub WhereTold : Option (List (List ℕ)) → (List (List ℕ) → Type 0) → Type 0
+WhereTold told Holds = (all : List (List ℕ)) → told ≡ Some all → Holds all
+
 -- a reference may stand in a store: at most 63,504 pages, and where it has any, its root is a block behind the roots
 pub record IsIn (told : Option (List (List ℕ))) (object : Ref) : Type 0 where
   pub few : object.pages ≤ 63504

@@ -1,8 +1,9 @@
 -- What calls that write blocks change.
-use Rattle.std.specs.Prelude.{◌≡◌, ℕ, ◌≤◌, Bool, false, List, ◌++◌, length, nat_eq, Option, Some, None}
+use Rattle.std.specs.Prelude.{◌≡◌, ℕ, ◌≤◌, Bool, false, List, ◌++◌, length, nat_eq, Some, None}
 use Rattle.std.specs.List.{list_any}
 use Rattle.iq_outside.specs.declared.device.Device.{Ghosts}
-use Rattle.iq_outside.specs.Devices.{block_of, KeepsPast}
+use Rattle.iq_outside.specs.Devices.{block_of}
+use Rattle.iq_outside.specs.DeviceCalls.{KeepsPast}
 use Rattle.iq_block_map.specs.Takers.{taken_of}
 
 -- whether a block is among some
@@ -26,5 +27,5 @@ pub record HasPut {D : Type 0} (g : Ghosts D) (before after : List ℕ) (old new
       → (now : List (List ℕ)) × (g.blocks new ≡ Some now) × SameBeside (taken_of before after) all now
   pub untold : g.blocks old ≡ None → g.blocks new ≡ None
   pub later : g.faults old ≤ g.faults new
-  pub past : KeepsPast g.tells g.clock g.image old new
-  pub since : AddsBeside (taken_of before after) g.clock g.image old new
+  pub past : KeepsPast g old new
+  pub since : AddsBeside g (taken_of before after) old new

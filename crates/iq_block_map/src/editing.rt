@@ -1,20 +1,21 @@
 //! Writing an object anew, by maps that it shares with the old one where their pages are the same.
-ghost use Rattle.std.specs.Prelude.{◌≡◌, ◌≢◌, ◌≤◌, ◌<◌, ◌*◌, ◌+◌, ◌-◌, ◌++◌, ℕ, List, [], Some, Ok, Err, length, slice_index, take, IfOk, IfErr, IsOk, IsTrue, IsFalse};
-ghost use Rattle.iq_block_map.specs.Refs.{IsIn, IsPlace, HasPlaces};
+ghost use Rattle.std.specs.Prelude.{◌≡◌, ◌≢◌, ◌≤◌, ◌<◌, ◌*◌, ◌+◌, ◌-◌, ◌++◌, ℕ, List, [], Some, Ok, Err, length, slice_index, take, IfOk, IfErr, OnOk, IsTrue, IsFalse};
+ghost use Rattle.iq_block_map.specs.Refs.{IsIn, WhereTold, IsPlace, HasPlaces};
 ghost use Rattle.iq_block_map.specs.Objects.{leaf_count, used_in};
 ghost use Rattle.iq_block_map.specs.Takers.{AreSpare};
 ghost use Rattle.iq_block_map.specs.Writing.{HasPut};
-ghost use Rattle.iq_block_map.specs.Editing.{replaced_from, edited, AreChanges, AreBlocks, new_blocks, HasEdited, IsNowIn, TellsBadMap, LacksMaps};
-ghost use Rattle.iq_block_map.specs.Leaves.{below, padded, leaf_at, EndsLeaf, IsOpened, AreOpened, ReadsLeaves, IsBadPlace, IsBadOne, LacksOne, LacksLeaves, HasLeaves, EndsTop};
+ghost use Rattle.iq_block_map.specs.Editing.{replaced_from, AreChanges, AreBlocks, new_blocks, HasEdited, TellsBadMap, LacksMaps};
+ghost use Rattle.iq_block_map.specs.Leaves.{below, padded, leaf_at, RewritesLeaf, RewritesLeaves, ReadsTouched, ReadsOne, IsBadPlace, IsBadOne, IsWrongLeaf, LacksOne, LacksLeaves, MakesTop, LacksTop};
 ghost use Rattle.iq_block_map.specs.Causes.{IsEditFault, IsReadFault, IsPutFault};
 ghost use Rattle.iq_block_store.specs.Looks.{HasLooked};
 ghost use Rattle.std.specs.List.{prefix_len};
 
-use crate::map_bytes::{MAP, Places, ROOM, payload_of};
-use crate::reading::{count_of, leaf_count, leaves_of, read_map, used_in};
+use crate::map_bytes::{Places, ROOM, payload_of};
+use crate::reading::{leaf_count, leaves_of, read_map, used_in};
 use crate::writing::put;
 use crate::{MapFault, Taker};
 use iq_base::Ref;
+use iq_block_store::{MAP, count_of};
 use iq_outside::Device;
 
 /// A leaf of an object: its block, its first page, and how many pages it names.
@@ -45,13 +46,14 @@ pub fn remap<D: Device, T: Taker>(
     ensures spare { AreSpare (D.blocks disk.new) (T.left space.new) }
     ensures most { length (T.left space.old)
         ≤ length (T.left space.new) + (leaf_count (old.pages + length added.now) + 1) }
-    ensures ok { IfOk result (HasEdited (D.blocks disk.old) (D.blocks disk.new) old changed.now added.now
-        (T.left space.old) (T.left space.new)) }
+    ensures ok { IfOk result (HasEdited (D.blocks disk.old) (D.blocks disk.new)
+        old changed.now added.now (T.left space.old) (T.left space.new)) }
     ensures is_in { IfOk result (IsIn (D.blocks disk.new)) }
     ensures pages { IfOk result (λ new. new.pages ≡ old.pages + length added.now) }
     ensures cause { IfErr result (λ e. IsEditFault
         (TellsBadMap (D.blocks disk.old) (D.blocks disk.new) old changed.now added.now)
-        (LacksMaps (D.blocks disk.old) old changed.now added.now (T.left space.old) (T.left space.new))
+        (LacksMaps (D.blocks disk.old)
+        old changed.now added.now (T.left space.old) (T.left space.new))
         e (D.faults disk.old) (D.faults disk.new)) }
 {
     if is_untouched(changed, added) {
@@ -79,13 +81,14 @@ fn rebuild<D: Device, T: Taker>(
     ensures spare { AreSpare (D.blocks disk.new) (T.left space.new) }
     ensures most { length (T.left space.old)
         ≤ length (T.left space.new) + (leaf_count (old.pages + length added.now) + 1) }
-    ensures ok { IfOk result (HasEdited (D.blocks disk.old) (D.blocks disk.new) old changed.now added.now
-        (T.left space.old) (T.left space.new)) }
+    ensures ok { IfOk result (HasEdited (D.blocks disk.old) (D.blocks disk.new)
+        old changed.now added.now (T.left space.old) (T.left space.new)) }
     ensures is_in { IfOk result (IsIn (D.blocks disk.new)) }
     ensures pages { IfOk result (λ new. new.pages ≡ old.pages + length added.now) }
     ensures cause { IfErr result (λ e. IsEditFault
         (TellsBadMap (D.blocks disk.old) (D.blocks disk.new) old changed.now added.now)
-        (LacksMaps (D.blocks disk.old) old changed.now added.now (T.left space.old) (T.left space.new))
+        (LacksMaps (D.blocks disk.old)
+        old changed.now added.now (T.left space.old) (T.left space.new))
         e (D.faults disk.old) (D.faults disk.new)) }
 {
     let count = count_of(disk)?;
@@ -112,10 +115,10 @@ fn top<D: Device, T: Taker>(
     ensures spare { AreSpare (D.blocks disk.new) (T.left space.new) }
     ensures most { length (T.left space.old) ≤ length (T.left space.new) + 1 }
     ensures is_in { IfOk result (λ root. 1 ≤ pages → IsPlace (D.blocks disk.new) root) }
-    ensures ok { IfOk result (λ root. (all : List (List ℕ)) → D.blocks disk.old ≡ Some all
-        → IsNowIn (λ now. EndsTop all now old before.now leaves.now pages root (T.left space.old) (T.left space.new)) (D.blocks disk.new)) }
+    ensures ok { IfOk result (MakesTop (D.blocks disk.old) (D.blocks disk.new)
+        old before.now leaves.now pages (T.left space.old) (T.left space.new)) }
     ensures cause { IfErr result (λ e. IsPutFault
-        ((T.left space.old ≡ []) × (T.left space.new ≡ []) × (252 < pages) × (252 < old.pages → leaves.now ≢ before.now))
+        (LacksTop old pages before.now leaves.now (T.left space.old) (T.left space.new))
         e (D.faults disk.old) (D.faults disk.new)) }
 {
     if pages <= 252 {
@@ -145,7 +148,7 @@ fn rewrite_leaves<D: Device, T: Taker>(
     changed: &[(u32, u32)],
     added: &[u32],
 ) -> Result<Places, MapFault>
-    requires count { (all : List (List ℕ)) → D.blocks disk.old ≡ Some all → count ≡ length all }
+    requires count { WhereTold (D.blocks disk.old) (λ all. count ≡ length all) }
     requires before { HasPlaces (D.blocks disk.old) (leaf_count old.pages) before.now }
     requires changes { AreChanges 0 old.pages changed.now }
     requires most { old.pages + length added.now ≤ 63504 }
@@ -156,17 +159,16 @@ fn rewrite_leaves<D: Device, T: Taker>(
     ensures spare { AreSpare (D.blocks disk.new) (T.left space.new) }
     ensures most { length (T.left space.old)
         ≤ length (T.left space.new) + leaf_count (old.pages + length added.now) }
-    ensures ok { IfOk result (λ leaves. (all : List (List ℕ)) (xs : List ℕ) → D.blocks disk.old ≡ Some all
-        → IsOpened all old before.now xs (T.left space.old)
-        → IsNowIn (λ now. HasLeaves all now before.now leaves xs (edited xs changed.now added.now) (T.left space.old) (T.left space.new)) (D.blocks disk.new)) }
+    ensures ok { IfOk result (RewritesLeaves (D.blocks disk.old) (D.blocks disk.new)
+        old changed.now added.now (T.left space.old) (T.left space.new) before.now) }
     ensures first { IfOk result (λ leaves. 1 ≤ old.pages + length added.now
         → IsPlace (D.blocks disk.new) (slice_index leaves 0)) }
-    ensures read { IfOk result (λ _. (all : List (List ℕ)) → D.blocks disk.old ≡ Some all
-        → AreOpened all old before.now (T.left space.old)
-        → ReadsLeaves all old before.now changed.now added.now (leaf_count (old.pages + length added.now))) }
+    ensures read { OnOk result (ReadsTouched (D.blocks disk.old)
+        old before.now changed.now added.now (T.left space.old)) }
     ensures cause { IfErr result (λ e. IsEditFault
-        (λ b. IsNowIn (IsBadPlace old before.now changed.now added.now b) (D.blocks disk.new))
-        (LacksLeaves (D.blocks disk.old) old before.now changed.now added.now (T.left space.old) (T.left space.new))
+        (λ b. WhereTold (D.blocks disk.new) (IsBadPlace old before.now changed.now added.now b))
+        (LacksLeaves (D.blocks disk.old)
+        old before.now changed.now added.now (T.left space.old) (T.left space.new))
         e (D.faults disk.old) (D.faults disk.new)) }
 {
     let mut leaves = *before;
@@ -203,7 +205,7 @@ fn rewrite_leaf<D: Device, T: Taker>(
     here: &[(u32, u32)],
     more: &[u32],
 ) -> Result<u32, MapFault>
-    requires count { (all : List (List ℕ)) → D.blocks disk.old ≡ Some all → count ≡ length all }
+    requires count { WhereTold (D.blocks disk.old) (λ all. count ≡ length all) }
     requires leaf { 1 ≤ leaf.used → IsPlace (D.blocks disk.old) leaf.at }
     requires room { leaf.used + length more.now ≤ 252 }
     requires here { AreChanges leaf.first (leaf.first + leaf.used) here.now }
@@ -212,14 +214,14 @@ fn rewrite_leaf<D: Device, T: Taker>(
     ensures put { HasPut D.Device (T.left space.old) (T.left space.new) disk.old disk.new }
     ensures spare { AreSpare (D.blocks disk.new) (T.left space.new) }
     ensures most { length (T.left space.old) ≤ length (T.left space.new) + 1 }
-    ensures ok { IfOk result (λ made. (all : List (List ℕ)) (xs : List ℕ) → D.blocks disk.old ≡ Some all
-        → leaf_at all leaf.used leaf.at ≡ Ok xs
-        → IsNowIn (λ now. EndsLeaf all now leaf.at made xs (replaced_from leaf.first xs here.now ++ more.now) (T.left space.old) (T.left space.new)) (D.blocks disk.new)) }
-    ensures is_in { IfOk result (λ made. 1 ≤ leaf.used + length more.now → IsPlace (D.blocks disk.new) made) }
-    ensures read { IfOk result (λ _. 1 ≤ length here.now + length more.now
-        → (all : List (List ℕ)) → D.blocks disk.old ≡ Some all → IsOk (leaf_at all leaf.used leaf.at)) }
+    ensures ok { IfOk result (RewritesLeaf (D.blocks disk.old) (D.blocks disk.new)
+        leaf.used leaf.at leaf.first here.now more.now (T.left space.old) (T.left space.new)) }
+    ensures is_in { IfOk result (λ made. 1 ≤ leaf.used + length more.now
+        → IsPlace (D.blocks disk.new) made) }
+    ensures read { OnOk result
+        (ReadsOne (D.blocks disk.old) leaf.used leaf.at here.now more.now) }
     ensures cause { IfErr result (λ e. IsEditFault
-        (λ b. IsNowIn (IsBadOne leaf.used leaf.at here.now more.now b) (D.blocks disk.new))
+        (λ b. WhereTold (D.blocks disk.new) (IsBadOne leaf.used leaf.at here.now more.now b))
         (LacksOne (D.blocks disk.old) leaf.used leaf.at leaf.first here.now more.now
         (T.left space.old) (T.left space.new))
         e (D.faults disk.old) (D.faults disk.new)) }
@@ -254,14 +256,14 @@ fn keeps_pages(used: usize, before: &Places, places: &Places) -> bool
 /// The numbers of a leaf. One of no pages has zeros.
 #[tactic(auto, using(crate::proofs::LeafLemmas::padded_of))]
 fn read_leaf<D: Device>(disk: &mut D, count: u32, leaf: Leaf) -> Result<Places, MapFault>
-    requires count { (all : List (List ℕ)) → D.blocks disk.old ≡ Some all → count ≡ length all }
-    requires leaf { (all : List (List ℕ)) → D.blocks disk.old ≡ Some all → 1 ≤ leaf.used → leaf.at < length all }
+    requires count { WhereTold (D.blocks disk.old) (λ all. count ≡ length all) }
+    requires leaf { WhereTold (D.blocks disk.old) (λ all. 1 ≤ leaf.used → leaf.at < length all) }
     requires used { leaf.used ≤ 252 }
     ensures looked { HasLooked D.Device disk.old disk.new }
-    ensures ok { IfOk result (λ ps. (all : List (List ℕ)) → D.blocks disk.old ≡ Some all
-        → leaf_at all leaf.used leaf.at ≡ Ok (take leaf.used ps)) }
+    ensures ok { IfOk result (λ ps. WhereTold (D.blocks disk.old)
+        (λ all. leaf_at all leaf.used leaf.at ≡ Ok (take leaf.used ps))) }
     ensures padded { IfOk result (λ ps. ps ≡ padded (take leaf.used ps)) }
-    ensures cause { IfErr result (λ e. IsReadFault (λ b all. (b ≡ leaf.at) × (leaf_at all leaf.used leaf.at ≡ Err leaf.at))
+    ensures cause { IfErr result (λ e. IsReadFault (IsWrongLeaf leaf.used leaf.at)
         e (D.blocks disk.old) (D.faults disk.old) (D.faults disk.new)) }
 {
     if leaf.used == 0 {

@@ -11,33 +11,34 @@ ghost use Rattle.iq_block_map.specs.Laws.{SameOn, SameObject, ReachesParts, rewr
 
 /// Lists of blocks that are the same where an object reaches have the same object: its maps, its blocks and its pages.
 pub fn an_object_stands_on_what_it_reaches()
-    ensures { (all now : List (List ℕ)) (object : Ref) (blocks : List ℕ) → object.pages ≤ 63504 → blocks_of all object ≡ Ok blocks
-        → SameOn blocks all now → SameObject all now object }
+    ensures { (all now : List (List ℕ)) (object : Ref) (blocks : List ℕ) → object.pages ≤ 63504
+        → blocks_of all object ≡ Ok blocks → SameOn blocks all now → SameObject all now object }
 {}
 
 /// The block of a page is the one in its place in the list of an object's pages.
 pub fn a_page_is_where_the_list_says()
-    ensures { (all : List (List ℕ)) (object : Ref) (xs : List ℕ) (n : ℕ) → object.pages ≤ 63504 → addresses_of all object ≡ Ok xs
-        → n < object.pages → address_of all object n ≡ Ok (slice_index xs n) }
+    ensures { (all : List (List ℕ)) (object : Ref) (xs : List ℕ) (n : ℕ) → object.pages ≤ 63504
+        → addresses_of all object ≡ Ok xs → n < object.pages → address_of all object n ≡ Ok (slice_index xs n) }
 {}
 
 /// Blocks that aren't among those that an object reaches are apart from it.
 pub fn what_is_not_reached_is_apart()
-    ensures { (all : List (List ℕ)) (object : Ref) (blocks left : List ℕ) → object.pages ≤ 63504 → blocks_of all object ≡ Ok blocks
-        → All (λ b. holds left b ≡ false) blocks → AreApart all object left }
+    ensures { (all : List (List ℕ)) (object : Ref) (blocks left : List ℕ) → object.pages ≤ 63504
+        → blocks_of all object ≡ Ok blocks → All (λ b. holds left b ≡ false) blocks → AreApart all object left }
 {}
 
 /// The pages in a list of blocks stay where these blocks stay.
 pub fn pages_stand_on_their_blocks()
-    ensures { (all now : List (List ℕ)) (xs : List ℕ) → All (λ b. block_of now b ≡ block_of all b) xs
-        → contents now (Ok xs) ≡ contents all (Ok xs) }
+    ensures { (all now : List (List ℕ)) (xs : List ℕ)
+        → All (λ b. block_of now b ≡ block_of all b) xs → contents now (Ok xs) ≡ contents all (Ok xs) }
 {}
 
 /// Where the blocks of an object's pages are edited, its pages are those with the pages in the new blocks. So one who wrote pages
 /// into blocks of their own, and then makes the maps by one `remap`, knows the pages of the new object.
 pub fn pages_change_with_their_blocks()
-    ensures { (all : List (List ℕ)) (xs added : List ℕ) (changed : List (ℕ × ℕ)) (ps pages more : List (List ℕ))
-        → contents all (Ok xs) ≡ Some ps → contents all (Ok (new_blocks changed)) ≡ Some pages
+    ensures { (all : List (List ℕ)) (xs added : List ℕ) (changed : List (ℕ × ℕ))
+        (ps pages more : List (List ℕ)) → contents all (Ok xs) ≡ Some ps
+        → contents all (Ok (new_blocks changed)) ≡ Some pages
         → contents all (Ok added) ≡ Some more
         → contents all (Ok (edited xs changed added)) ≡ Some (rewritten ps changed pages ++ more) }
 {}
@@ -57,8 +58,8 @@ pub fn what_is_fresh_replaces_what_is_lost()
 
 /// The leaves and pages of an object are blocks behind the roots.
 pub fn objects_are_behind_the_roots()
-    ensures leaves { (all : List (List ℕ)) (object : Ref) (ls : List ℕ) → (1 ≤ object.pages → 4 ≤ object.root)
-        → leaves_of all object ≡ Ok ls → All (λ b. 4 ≤ b) ls }
-    ensures pages { (all : List (List ℕ)) (object : Ref) (xs : List ℕ) → addresses_of all object ≡ Ok xs
-        → All (λ b. is_address (length all) b ≡ true) xs }
+    ensures leaves { (all : List (List ℕ)) (object : Ref) (ls : List ℕ)
+        → (1 ≤ object.pages → 4 ≤ object.root) → leaves_of all object ≡ Ok ls → All (λ b. 4 ≤ b) ls }
+    ensures pages { (all : List (List ℕ)) (object : Ref) (xs : List ℕ)
+        → addresses_of all object ≡ Ok xs → All (λ b. is_address (length all) b ≡ true) xs }
 {}

@@ -12,8 +12,6 @@ mod map_bytes;
 mod pages;
 mod reading;
 mod taker;
-#[cfg(test)]
-mod tests;
 mod writing;
 
 pub use editing::remap;

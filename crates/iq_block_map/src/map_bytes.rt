@@ -8,12 +8,6 @@ use byteorder::{ByteOrder, LittleEndian};
 use iq_block_store::{Page, number_at};
 use iq_outside::Block;
 
-/// The kind of a map.
-pub const MAP: u8 = 4;
-
-/// The kind of a page.
-pub const PAGE: u8 = 5;
-
 /// How many numbers a map has.
 pub const ROOM: usize = 252;
 

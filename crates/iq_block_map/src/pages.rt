@@ -8,11 +8,10 @@ ghost use Rattle.iq_block_map.specs.Paging.{replacing, appending, HasPaged, Tell
 ghost use Rattle.iq_block_map.specs.Causes.{IsEditFault};
 
 use crate::editing::remap;
-use crate::map_bytes::PAGE;
 use crate::writing::put;
 use crate::{MapFault, Taker};
 use iq_base::Ref;
-use iq_block_store::Page;
+use iq_block_store::{PAGE, Page};
 use iq_outside::Device;
 
 /// Makes an object of another by writing one of its pages anew. It takes and writes a block for the page and one for each map that
@@ -30,13 +29,15 @@ pub fn with_page<D: Device, T: Taker>(
     requires spare { AreSpare (D.blocks disk.old) (T.left space.old) }
     ensures put { HasPut D.Device (T.left space.old) (T.left space.new) disk.old disk.new }
     ensures spare { AreSpare (D.blocks disk.new) (T.left space.new) }
-    ensures most { length (T.left space.old) ≤ length (T.left space.new) + (leaf_count object.pages + 2) }
-    ensures ok { IfOk result (HasPaged (D.blocks disk.old) (D.blocks disk.new) object (replacing n) from.now
-        (T.left space.old) (T.left space.new)) }
+    ensures most { length (T.left space.old)
+        ≤ length (T.left space.new) + (leaf_count object.pages + 2) }
+    ensures ok { IfOk result (HasPaged (D.blocks disk.old) (D.blocks disk.new)
+        object (replacing n) from.now (T.left space.old) (T.left space.new)) }
     ensures is_in { IfOk result (IsIn (D.blocks disk.new)) }
     ensures pages { IfOk result (λ new. new.pages ≡ object.pages) }
     ensures cause { IfErr result (λ e. IsEditFault
-        (TellsBadPaged (D.blocks disk.old) (D.blocks disk.new) object (replacing n) from.now (T.left space.old))
+        (TellsBadPaged (D.blocks disk.old) (D.blocks disk.new)
+        object (replacing n) from.now (T.left space.old))
         (LacksPaging (D.blocks disk.old) object (replacing n) (T.left space.old) (T.left space.new))
         e (D.faults disk.old) (D.faults disk.new)) }
 {
@@ -58,13 +59,15 @@ pub fn push<D: Device, T: Taker>(
     requires spare { AreSpare (D.blocks disk.old) (T.left space.old) }
     ensures put { HasPut D.Device (T.left space.old) (T.left space.new) disk.old disk.new }
     ensures spare { AreSpare (D.blocks disk.new) (T.left space.new) }
-    ensures most { length (T.left space.old) ≤ length (T.left space.new) + (leaf_count (object.pages + 1) + 2) }
-    ensures ok { IfOk result (HasPaged (D.blocks disk.old) (D.blocks disk.new) object appending from.now
-        (T.left space.old) (T.left space.new)) }
+    ensures most { length (T.left space.old)
+        ≤ length (T.left space.new) + (leaf_count (object.pages + 1) + 2) }
+    ensures ok { IfOk result (HasPaged (D.blocks disk.old) (D.blocks disk.new)
+        object appending from.now (T.left space.old) (T.left space.new)) }
     ensures is_in { IfOk result (IsIn (D.blocks disk.new)) }
     ensures pages { IfOk result (λ new. new.pages ≡ object.pages + 1) }
     ensures cause { IfErr result (λ e. IsEditFault
-        (TellsBadPaged (D.blocks disk.old) (D.blocks disk.new) object appending from.now (T.left space.old))
+        (TellsBadPaged (D.blocks disk.old) (D.blocks disk.new)
+        object appending from.now (T.left space.old))
         (LacksPaging (D.blocks disk.old) object appending (T.left space.old) (T.left space.new))
         e (D.faults disk.old) (D.faults disk.new)) }
 {

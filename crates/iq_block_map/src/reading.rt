@@ -1,19 +1,17 @@
 //! Reading objects.
 ghost use Rattle.std.specs.Prelude.{◌≡◌, ◌≤◌, ◌<◌, ◌^◌, ◌*◌, ◌+◌, ◌-◌, ◌++◌, ℕ, true, false, List, Some, Ok, Err, length, slice_index, take, IfOk, IfErr, OnOk};
-ghost use Rattle.iq_outside.specs.Devices.{block_of};
-ghost use Rattle.iq_block_store.specs.Frames.{has_header};
 ghost use Rattle.iq_block_store.specs.Looks.{HasLooked};
-ghost use Rattle.iq_block_map.specs.Maps.{page_kind, IsRawMap, is_address};
+ghost use Rattle.iq_block_map.specs.Maps.{IsRawMap, is_address};
 ghost use Rattle.iq_block_map.specs.Objects.{leaf_count, used_in, map_at, leaves_of, maps_of, addresses_of, blocks_of, walked, front, IsPageAt, HoldsPage};
-ghost use Rattle.iq_block_map.specs.Causes.{IsStoreFault, IsRawFault, IsReadFault, IsWalkFault, IsBadOnWay};
+ghost use Rattle.iq_block_map.specs.Causes.{IsRawFault, IsReadFault, IsWalkFault, IsWrongMap, IsNoPage, IsBadOnWay};
 ghost use Rattle.iq_block_map.specs.declared.faults.MapFault.TheVariants.{NoMemory};
 ghost use Rattle.iq_block_map.specs.Editing.{maps_needed};
-ghost use Rattle.iq_block_map.specs.Refs.{IsIn, MayBe, HasPlaces};
+ghost use Rattle.iq_block_map.specs.Refs.{IsIn, WhereTold, MayBe, HasPlaces};
 
 use crate::MapFault;
-use crate::map_bytes::{MAP, PAGE, Places, ROOM, RawMap, is_right_map, raw_map_of};
+use crate::map_bytes::{Places, ROOM, RawMap, is_right_map, raw_map_of};
 use iq_base::Ref;
-use iq_block_store::{BlockFault, Page, read};
+use iq_block_store::{BlockFault, MAP, PAGE, Page, count_of, read};
 use iq_outside::Device;
 use std::alloc::Global;
 
@@ -43,23 +41,6 @@ pub fn used_in(pages: u32, k: u32) -> usize
     used as usize
 }
 
-/// How many blocks the device has.
-pub fn count_of<D: Device>(disk: &mut D) -> Result<u32, MapFault>
-    ensures looked { HasLooked D.Device disk.old disk.new }
-    ensures count { IfOk result (λ n. (all : List (List ℕ)) → D.blocks disk.old ≡ Some all → n ≡ length all) }
-    ensures fits { IfOk result (λ n. n < 2 ^ 32) }
-    ensures cause { IfErr result (λ e. IsStoreFault e (D.faults disk.old) (D.faults disk.new)) }
-{
-    let before = disk.faults();
-    match disk.count() {
-        Ok(count) => Ok(count),
-        Err(_) => {
-            let after = disk.faults();
-            Err(MapFault::StoreFault { before, after })
-        }
-    }
-}
-
 /// Reads a map of a level with so many numbers in use.
 pub fn read_map<D: Device>(
     disk: &mut D,
@@ -69,12 +50,13 @@ pub fn read_map<D: Device>(
     at: u32,
 ) -> Result<Places, MapFault>
     requires used { used ≤ 252 }
-    requires told { (all : List (List ℕ)) → D.blocks disk.old ≡ Some all → (count ≡ length all) × (at < length all) }
+    requires told { WhereTold (D.blocks disk.old)
+        (λ all. (count ≡ length all) × (at < length all)) }
     ensures looked { HasLooked D.Device disk.old disk.new }
-    ensures ok { IfOk result (λ ps. (all : List (List ℕ)) → D.blocks disk.old ≡ Some all
-        → map_at all level used at ≡ Ok (take used ps)) }
+    ensures ok { IfOk result (λ ps. WhereTold (D.blocks disk.old)
+        (λ all. map_at all level used at ≡ Ok (take used ps))) }
     ensures places { IfOk result (λ ps. MayBe count used ps) }
-    ensures cause { IfErr result (λ e. IsReadFault (λ b all. (b ≡ at) × (map_at all level used at ≡ Err at))
+    ensures cause { IfErr result (λ e. IsReadFault (IsWrongMap level used at)
         e (D.blocks disk.old) (D.faults disk.old) (D.faults disk.new)) }
 {
     match read_raw_map(disk, at) {
@@ -90,10 +72,12 @@ pub fn read_map<D: Device>(
 /// Reads the level and the numbers of a map, and tests none of them: for one who tells apart what may be wrong with a map. It reads
 /// one block, and takes no memory. `BadHeader` comes where the block isn't a map of its place.
 pub fn read_raw_map<D: Device>(disk: &mut D, at: u32) -> Result<RawMap, BlockFault>
-    requires { (all : List (List ℕ)) → D.blocks disk.old ≡ Some all → at < length all }
-    ensures looked { HasLooked D.blocks D.faults D.tells D.clock D.image disk.old disk.new }
-    ensures ok { IfOk result (λ raw. (all : List (List ℕ)) → D.blocks disk.old ≡ Some all → IsRawMap raw at all) }
-    ensures cause { IfErr result (λ e. IsRawFault e at (D.blocks disk.old) (D.faults disk.old) (D.faults disk.new)) }
+    requires { WhereTold (D.blocks disk.old) (λ all. at < length all) }
+    ensures looked { HasLooked D.Device disk.old disk.new }
+    ensures ok { IfOk result (λ raw. WhereTold (D.blocks disk.old)
+        (λ all. IsRawMap raw at all)) }
+    ensures cause { IfErr result (λ e. IsRawFault e at
+        (D.blocks disk.old) (D.faults disk.old) (D.faults disk.new)) }
 {
     let mut block = [0; 1024];
     read(disk, at, MAP, &mut block)?;
@@ -103,10 +87,10 @@ pub fn read_raw_map<D: Device>(disk: &mut D, at: u32) -> Result<RawMap, BlockFau
 /// The leaves of an object. The numbers behind them are zero.
 pub fn leaves_of<D: Device>(disk: &mut D, count: u32, object: Ref) -> Result<Places, MapFault>
     requires object { IsIn (D.blocks disk.old) object }
-    requires count { (all : List (List ℕ)) → D.blocks disk.old ≡ Some all → count ≡ length all }
+    requires count { WhereTold (D.blocks disk.old) (λ all. count ≡ length all) }
     ensures looked { HasLooked D.Device disk.old disk.new }
-    ensures ok { IfOk result (λ ps. (all : List (List ℕ)) → D.blocks disk.old ≡ Some all
-        → leaves_of all object ≡ Ok (take (leaf_count object.pages) ps)) }
+    ensures ok { IfOk result (λ ps. WhereTold (D.blocks disk.old)
+        (λ all. leaves_of all object ≡ Ok (take (leaf_count object.pages) ps))) }
     ensures places { IfOk result (HasPlaces (D.blocks disk.old) (leaf_count object.pages)) }
     ensures cause { IfErr result (λ e. IsReadFault (λ b all. leaves_of all object ≡ Err b)
         e (D.blocks disk.old) (D.faults disk.old) (D.faults disk.new)) }
@@ -127,8 +111,10 @@ pub fn leaves_of<D: Device>(disk: &mut D, count: u32, object: Ref) -> Result<Pla
 fn only_leaf(object: Ref) -> Places
     requires { object.pages ≤ 252 }
     ensures root { 1 ≤ object.pages → slice_index result 0 ≡ object.root }
-    ensures places { (count : ℕ) → (1 ≤ object.pages → is_address count object.root ≡ true) → MayBe count (leaf_count object.pages) result }
-    ensures leaves { (all : List (List ℕ)) → leaves_of all object ≡ Ok (take (leaf_count object.pages) result) }
+    ensures places { (count : ℕ) → (1 ≤ object.pages → is_address count object.root ≡ true)
+        → MayBe count (leaf_count object.pages) result }
+    ensures leaves { (all : List (List ℕ))
+        → leaves_of all object ≡ Ok (take (leaf_count object.pages) result) }
 {
     let mut leaves = [0; ROOM];
     if object.pages > 0 {
@@ -142,7 +128,8 @@ pub fn page<D: Device>(disk: &mut D, object: Ref, n: u32, into: &mut Page) -> Re
     requires object { IsIn (D.blocks disk.old) object }
     requires page { n < object.pages }
     ensures looked { HasLooked D.Device disk.old disk.new }
-    ensures ok { IfOk result (λ at. (all : List (List ℕ)) → D.blocks disk.old ≡ Some all → IsPageAt object n at into.new all) }
+    ensures ok { IfOk result (λ at. WhereTold (D.blocks disk.old)
+        (λ all. IsPageAt object n at into.new all)) }
     ensures cause { IfErr result (λ e. IsReadFault (IsBadOnWay object n)
         e (D.blocks disk.old) (D.faults disk.old) (D.faults disk.new)) }
 {
@@ -158,10 +145,10 @@ pub fn page<D: Device>(disk: &mut D, object: Ref, n: u32, into: &mut Page) -> Re
 /// Reads the page in a block. It reads that block alone, and takes no memory. `BadMap` names the block where it isn't a page of its
 /// place.
 pub fn read_page<D: Device>(disk: &mut D, at: u32, into: &mut Page) -> Result<(), MapFault>
-    requires { (all : List (List ℕ)) → D.blocks disk.old ≡ Some all → at < length all }
+    requires { WhereTold (D.blocks disk.old) (λ all. at < length all) }
     ensures looked { HasLooked D.Device disk.old disk.new }
-    ensures ok { OnOk result ((all : List (List ℕ)) → D.blocks disk.old ≡ Some all → HoldsPage into.new at all) }
-    ensures cause { IfErr result (λ e. IsReadFault (λ b all. (b ≡ at) × (has_header page_kind b (block_of all b) ≡ false))
+    ensures ok { OnOk result (WhereTold (D.blocks disk.old) (HoldsPage into.new at)) }
+    ensures cause { IfErr result (λ e. IsReadFault (IsNoPage at)
         e (D.blocks disk.old) (D.faults disk.old) (D.faults disk.new)) }
 {
     let mut block = [0; 1024];
@@ -183,7 +170,8 @@ pub fn read_page<D: Device>(disk: &mut D, at: u32, into: &mut Page) -> Result<()
 pub fn addresses<D: Device>(alloc: Global, disk: &mut D, object: Ref) -> Result<Vec<u32>, MapFault>
     requires object { IsIn (D.blocks disk.old) object }
     ensures looked { HasLooked D.Device disk.old disk.new }
-    ensures ok { IfOk result (λ xs. (all : List (List ℕ)) → D.blocks disk.old ≡ Some all → addresses_of all object ≡ Ok xs.items) }
+    ensures ok { IfOk result (λ xs. WhereTold (D.blocks disk.old)
+        (λ all. addresses_of all object ≡ Ok xs.items)) }
     ensures cause { IfErr result (λ e. IsWalkFault (λ b all. addresses_of all object ≡ Err b)
         e (D.blocks disk.old) (D.faults disk.old) (D.faults disk.new)) }
 {
@@ -194,7 +182,8 @@ pub fn addresses<D: Device>(alloc: Global, disk: &mut D, object: Ref) -> Result<
 pub fn blocks<D: Device>(alloc: Global, disk: &mut D, object: Ref) -> Result<Vec<u32>, MapFault>
     requires object { IsIn (D.blocks disk.old) object }
     ensures looked { HasLooked D.Device disk.old disk.new }
-    ensures ok { IfOk result (λ xs. (all : List (List ℕ)) → D.blocks disk.old ≡ Some all → blocks_of all object ≡ Ok xs.items) }
+    ensures ok { IfOk result (λ xs. WhereTold (D.blocks disk.old)
+        (λ all. blocks_of all object ≡ Ok xs.items)) }
     ensures cause { IfErr result (λ e. IsWalkFault (λ b all. blocks_of all object ≡ Err b)
         e (D.blocks disk.old) (D.faults disk.old) (D.faults disk.new)) }
 {
@@ -204,8 +193,9 @@ pub fn blocks<D: Device>(alloc: Global, disk: &mut D, object: Ref) -> Result<Vec
 /// The maps of an object, the topmost one before its leaves. It reads one block where there are more than 252 pages, else none.
 pub fn maps<D: Device>(alloc: Global, disk: &mut D, object: Ref) -> Result<Vec<u32>, MapFault>
     requires object { IsIn (D.blocks disk.old) object }
-    ensures looked { HasLooked D.blocks D.faults D.tells D.clock D.image disk.old disk.new }
-    ensures ok { IfOk result (λ bs. (all : List (List ℕ)) → D.blocks disk.old ≡ Some all → maps_of all object ≡ Ok bs.items) }
+    ensures looked { HasLooked D.Device disk.old disk.new }
+    ensures ok { IfOk result (λ bs. WhereTold (D.blocks disk.old)
+        (λ all. maps_of all object ≡ Ok bs.items)) }
     ensures cause { IfErr result (λ e. IsWalkFault (λ b all. maps_of all object ≡ Err b)
         e (D.blocks disk.old) (D.faults disk.old) (D.faults disk.new)) }
 {
@@ -226,7 +216,8 @@ fn walk<D: Device>(
 ) -> Result<Vec<u32>, MapFault>
     requires object { IsIn (D.blocks disk.old) object }
     ensures looked { HasLooked D.Device disk.old disk.new }
-    ensures ok { IfOk result (λ xs. (all : List (List ℕ)) → D.blocks disk.old ≡ Some all → walked maps all object ≡ Ok xs.items) }
+    ensures ok { IfOk result (λ xs. WhereTold (D.blocks disk.old)
+        (λ all. walked maps all object ≡ Ok xs.items)) }
     ensures cause { IfErr result (λ e. IsWalkFault (λ b all. walked maps all object ≡ Err b)
         e (D.blocks disk.old) (D.faults disk.old) (D.faults disk.new)) }
 {
@@ -247,7 +238,8 @@ fn walk<D: Device>(
 
 /// Puts the blocks that a leaf names at the end, behind the leaf itself where maps are wanted.
 fn put_leaf(blocks: &mut Vec<u32>, maps: bool, leaf: u32, named: &[u32]) -> Result<(), MapFault>
-    ensures ok { OnOk result (blocks.new.items ≡ blocks.old.items ++ (front maps leaf ++ named.now)) }
+    ensures ok { OnOk result
+        (blocks.new.items ≡ blocks.old.items ++ (front maps leaf ++ named.now)) }
     ensures cause { IfErr result (λ e. e ≡ NoMemory) }
 {
     if maps {

@@ -1,17 +1,16 @@
-use Rattle.std.proofs.Common.{arith, sym, ap, subst, length-take, inl, inr, ◌≡◌, ◌∙◌, ◌≤◌, ◌+◌, ℕ, List, Option, length, take, true, is_ok, slice_index}
+use Rattle.std.proofs.Common.{arith, sym, ap, subst, length-take, inl, inr, ◌≡◌, ◌∙◌, ◌≤◌, ◌+◌, ℕ, length, take, true}
 use Rattle.std.specs.List.{All}
 use Rattle.std.proofs.lemmas.Bool.{cases_lt}
 use Rattle.std.proofs.lemmas.Result.{err_from_is_err_and}
 use Rattle.std.proofs.lemmas.List.{get_or-take}
 use Rattle.iq_block_map.specs.Maps.{is_address}
-use Rattle.iq_block_map.specs.Objects.{leaf_count, used_in, map_at, leaves_of}
-use Rattle.iq_block_map.specs.Takers.{AreSpare}
+use Rattle.iq_block_map.specs.Objects.{leaf_count, used_in, map_at}
 use Rattle.iq_block_map.specs.Editing.{edited}
-use Rattle.iq_block_map.specs.Leaves.{IsOpened, IsBadPlace, LacksLeaves}
+use Rattle.iq_block_map.specs.Leaves.{IsOpened, IsBadPlace}
 use Rattle.iq_block_map.proofs.EditLemmas.{length-edited, change_bounds}
 use Rattle.iq_block_map.proofs.PutLemmas.{put_none, put_then, looked_then, spare_inside}
 use Rattle.iq_block_map.proofs.ReadLemmas.{edit_fault_on, read_fault_edits, put_fault_edits}
-use Rattle.iq_block_map.proofs.RewriteLemmas.{spare_after, place_after, leaf_right, leaf_from}
+use Rattle.iq_block_map.proofs.RewriteLemmas.{leaf_right, leaf_from}
 use Rattle.iq_block_map.proofs.TopLemmas.{IsRebuilt, remap_done, lacks_top, listed_from, addresses_count, in_after}
 use Rattle.iq_block_map.proofs.ReachedLemmas.{remapped}
 use Rattle.iq_block_map.proofs.editing.rebuild.Goals as goal

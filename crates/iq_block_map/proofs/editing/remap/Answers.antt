@@ -1,4 +1,4 @@
-use Rattle.std.proofs.Common.{rules, refl, arith, ◌≡◌, []}
+use Rattle.std.proofs.Common.{refl, arith, ◌≡◌, []}
 use Rattle.std.proofs.lemmas.List.{nil_from_length}
 use Rattle.iq_block_map.proofs.PutLemmas.{put_none, looked_same, told_same}
 use Rattle.iq_block_map.proofs.TopLemmas.{remap_none}

@@ -1,4 +1,4 @@
-use Rattle.std.proofs.Common.{arith, refl, sym, ap, ◌≡◌, ◌∙◌, ◌<◌, ℕ, List, length, true, slice_index}
+use Rattle.std.proofs.Common.{arith, sym, ap, ◌≡◌, ◌∙◌, ℕ, List, length, true, slice_index}
 use Rattle.std.proofs.lemmas.Result.{err_from_is_err_and}
 use Rattle.iq_block_map.specs.Maps.{is_address}
 use Rattle.iq_block_map.specs.Paging.{replacing}

@@ -1,4 +1,4 @@
-use Rattle.std.proofs.Common.{arith, ap, length}
+use Rattle.std.proofs.Common.{arith, ap}
 use Rattle.iq_block_map.specs.Objects.{leaf_count}
 use Rattle.iq_block_map.proofs.StepLemmas.{needed_few}
 use Rattle.iq_block_map.proofs.reading.most_maps.Goals as goal

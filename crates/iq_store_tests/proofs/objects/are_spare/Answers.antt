@@ -3,7 +3,7 @@ use Rattle.std.specs.List.{All, AllByRecursion, IsDistinct, range_with_len}
 use Rattle.std.proofs.Common.{arith, refl, sym, subst}
 use Rattle.std.proofs.lemmas.Bool.{ne_eqb, leb-true}
 use Rattle.std.proofs.lemmas.List.FromFn.{length-range_with_len, get_or-range_with_len}
-use Rattle.iq_block_map.proofs.tests.are_spare.Goals as goal
+use Rattle.iq_store_tests.proofs.objects.are_spare.Goals as goal
 
 apart_from : (x a n : ℕ) → x < a → AllByRecursion (λ y. nat_eq x y ≡ false) (range_with_len a n)
 apart_from x a zero less = tt
