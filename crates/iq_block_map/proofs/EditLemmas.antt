@@ -63,10 +63,10 @@ none_below : (first end mid : ℕ) (cs : List (ℕ × ℕ)) → mid ≤ first �
 none_below first end mid [] past are = refl
 none_below first end mid ((n, a) ∷ cs) past are = rw (le-ltb n mid (omega (arith, past, are.0))) refl
 
-prefix_hit : (mid : ℕ) (c : ℕ × ℕ) (cs : List (ℕ × ℕ)) → below mid c ≡ true → prefix_len (below mid) (c ∷ cs) ≡ suc (prefix_len (below mid) cs)
+pub prefix_hit : (mid : ℕ) (c : ℕ × ℕ) (cs : List (ℕ × ℕ)) → below mid c ≡ true → prefix_len (below mid) (c ∷ cs) ≡ suc (prefix_len (below mid) cs)
 prefix_hit mid c cs hit = rw hit (omega arith)
 
-prefix_miss : (mid : ℕ) (c : ℕ × ℕ) (cs : List (ℕ × ℕ)) → below mid c ≡ false → prefix_len (below mid) (c ∷ cs) ≡ 0
+pub prefix_miss : (mid : ℕ) (c : ℕ × ℕ) (cs : List (ℕ × ℕ)) → below mid c ≡ false → prefix_len (below mid) (c ∷ cs) ≡ 0
 prefix_miss mid c cs miss = rw miss refl
 
 abbrev AreCut : ℕ → ℕ → ℕ → List (ℕ × ℕ) → ℕ → Type 0

@@ -5,9 +5,8 @@ use Rattle.std.proofs.Common.{refl, sym, ap, subst, ◌∙◌, inl, inr, arith, 
 use Rattle.std.proofs.lemmas.List.{get_or_append_left, get_or-append_right}
 use Rattle.std.proofs.lemmas.Bool.{cases_lt}
 use Rattle.iq_outside.specs.Devices.{block_of}
-use Rattle.iq_block_store.specs.Frames.{has_header, payload_of}
+use Rattle.iq_block_store.specs.Frames.{page_kind, has_header, payload_of}
 use Rattle.iq_base.specs.declared.refs.Ref.{Ref}
-use Rattle.iq_block_map.specs.Maps.{page_kind}
 use Rattle.iq_block_map.specs.Objects.{leaf_count, map_at, leaves_of, listed, listed_in, joined, top_of, walked, address_of, addresses_of, blocks_of, contents}
 use Rattle.iq_block_map.specs.Writing.{holds}
 use Rattle.iq_block_map.specs.Editing.{AreApart}
@@ -16,21 +15,21 @@ use Rattle.iq_block_map.proofs.StepLemmas.{listed_same, map_same, both_parts, ok
 use Rattle.iq_block_map.proofs.TopLemmas.{leaves_one, leaves_many, leaves_none, top_one, addresses_from, addresses_count}
 use Rattle.iq_block_map.proofs.ReachLemmas.{address_at}
 
-all_front : (P : ℕ → Type 0) (xs ys : List ℕ) → All P (xs ++ ys) → All P xs
+pub all_front : (P : ℕ → Type 0) (xs ys : List ℕ) → All P (xs ++ ys) → All P xs
 all_front P xs ys each k d within =
     subst P (get_or_append_left xs ys d k within) (each k d (omega (arith, within, length-append xs ys)))
 
-all_back : (P : ℕ → Type 0) (xs ys : List ℕ) → All P (xs ++ ys) → All P ys
+pub all_back : (P : ℕ → Type 0) (xs ys : List ℕ) → All P (xs ++ ys) → All P ys
 all_back P xs ys each k d within =
     let at : slice_index_or (xs ++ ys) (length xs + k) d ≡ slice_index_or ys k d
     = get_or-append_right xs ys (length xs) (length xs + k) d refl (omega arith) ∙ ap (λ (n : ℕ). slice_index_or ys n d) (omega arith) in
     subst P at (each (length xs + k) d (omega (arith, within, length-append xs ys)))
 
-all_cons : (P : ℕ → Type 0) (x : ℕ) (xs : List ℕ) → P x → All P xs → All P (x ∷ xs)
+pub all_cons : (P : ℕ → Type 0) (x : ℕ) (xs : List ℕ) → P x → All P xs → All P (x ∷ xs)
 all_cons P x xs here rest zero d within = here
 all_cons P x xs here rest (suc k) d within = rest k d (omega (arith, within))
 
-all_both : (P : ℕ → Type 0) (xs ys : List ℕ) → All P xs → All P ys → All P (xs ++ ys)
+pub all_both : (P : ℕ → Type 0) (xs ys : List ℕ) → All P xs → All P ys → All P (xs ++ ys)
 all_both P [] ys first second = second
 all_both P (x ∷ xs) ys first second =
     all_cons P x (xs ++ ys) (first 0 0 (omega arith)) (all_both P xs ys (λ k d within. first (suc k) d (omega (arith, within))) second)
@@ -107,14 +106,14 @@ same_top all now object size top = elim (cases_lt 252 object.pages) [
   ])
 ]
 
-same_right : (all now : List (List ℕ)) (xs : List ℕ) → All (λ b. block_of now b ≡ block_of all b) xs
+pub same_right : (all now : List (List ℕ)) (xs : List ℕ) → All (λ b. block_of now b ≡ block_of all b) xs
     → list_all (λ a. has_header page_kind a (block_of now a)) xs ≡ list_all (λ a. has_header page_kind a (block_of all a)) xs
 same_right all now [] same = refl
 same_right all now (x ∷ xs) same =
     ap (λ (block : List ℕ). has_header page_kind x block && list_all (λ a. has_header page_kind a (block_of now a)) xs) (same 0 0 (omega arith))
     ∙ ap (λ (b : Bool). has_header page_kind x (block_of all x) && b) (same_right all now xs (λ k d within. same (suc k) d (omega (arith, within))))
 
-same_contents : (all now : List (List ℕ)) (xs : List ℕ) → All (λ b. block_of now b ≡ block_of all b) xs
+pub same_contents : (all now : List (List ℕ)) (xs : List ℕ) → All (λ b. block_of now b ≡ block_of all b) xs
     → map (λ a. payload_of (block_of now a)) xs ≡ map (λ a. payload_of (block_of all a)) xs
 same_contents all now [] same = refl
 same_contents all now (x ∷ xs) same =

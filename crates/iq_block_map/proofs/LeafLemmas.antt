@@ -1,5 +1,5 @@
 -- Leaves as they are read and written.
-use Rattle.std.specs.Prelude.{◌≡◌, ℕ, zero, suc, ◌+◌, ◌-◌, ◌^◌, ◌<◌, ◌≤◌, Bool, true, List, [], ◌∷◌, ◌++◌, length, take, drop, replicate, nat_eq, slice_index, slice_index_or, slice_set, Result, Ok}
+use Rattle.std.specs.Prelude.{◌≡◌, ◌≢◌, ℕ, zero, suc, ◌+◌, ◌-◌, ◌^◌, ◌<◌, ◌≤◌, Bool, true, List, [], ◌∷◌, ◌++◌, length, take, drop, replicate, nat_eq, slice_index, slice_index_or, slice_set, Result, Ok}
 use Rattle.std.specs.List.{All, list_all, flat_map}
 use Rattle.std.proofs.Common.{refl, sym, ap, ◌∙◌, inl, inr, arith, append-nil, length-append, length-set, get_or-set_same}
 use Rattle.std.proofs.lemmas.List.{take_at, drop_at, take-append-drop, length-take, length-drop, length-replicate, get_or_append_left, get_or-append_right, get_or-replicate, get_or_at}
@@ -10,7 +10,9 @@ use Rattle.iq_block_store.proofs.FrameLemmas.{has_header-framed, framed_level, l
 use Rattle.iq_block_map.specs.Maps.{places, is_address, are_places, is_map, map_block}
 use Rattle.iq_block_map.specs.Refs.{MayBe}
 use Rattle.iq_block_map.specs.Objects.{map_at}
+use Rattle.iq_block_map.specs.Editing.{replaced_from, AreChanges}
 use Rattle.iq_block_map.specs.Leaves.{padded}
+use Rattle.iq_block_map.proofs.EditLemmas.{length-replaced, no_changes}
 
 zeros_of : (zs : List ℕ) → list_all (nat_eq 0) zs ≡ true → zs ≡ replicate (length zs) 0
 zeros_of [] are = refl
@@ -113,7 +115,7 @@ same_padded count xs zs (m ∷ more) size room are same =
     let four : 4 ≤ m = leb-true _ _ (and_parts _ _ (are 0 0 (omega arith))).0 in
     absurd (omega (arith, four, zero_m))
 
-some_list : (xs ys : List ℕ) (r : Result (List ℕ) ℕ) → r ≡ Ok xs → r ≡ Ok ys → xs ≡ ys
+pub some_list : (xs ys : List ℕ) (r : Result (List ℕ) ℕ) → r ≡ Ok xs → r ≡ Ok ys → xs ≡ ys
 some_list xs ys r a b = cc
 
 -- a leaf that reads the same after an edit has the pages that it had
@@ -125,3 +127,14 @@ stays_same count used xs ys ps qs more r at read long room full size are edited 
     let count_xs : length xs ≡ used = ap length is ∙ length-take used ps ∙ omega (arith, long, room) in
     let padded_xs : ps ≡ padded xs = full ∙ ap padded (sym is) in
     same_padded count xs ys more size (omega (arith, count_xs, room)) are (sym (edited count_xs padded_xs) ∙ same ∙ padded_xs)
+
+-- numbers that make a difference to a leaf are other pages
+pub other_pages : (used first : ℕ) (xs : List ℕ) (here : List (ℕ × ℕ)) (more ps qs : List ℕ) → length xs ≡ used → (1 ≤ used → qs ≢ ps)
+    → AreChanges first (first + used) here → 1 ≤ length here + length more → ps ≡ padded xs → qs ≡ padded (replaced_from first xs here ++ more)
+    → (replaced_from first xs here ++ more) ≢ xs
+other_pages used first xs here more ps qs size other are some ps_is qs_is same = elim (cases_lt 0 used) [
+  | inl pages ↦ other (omega (arith, pages)) (qs_is ∙ ap padded same ∙ sym ps_is)
+  | inr none ↦
+      (let no_here : here ≡ [] = no_changes first (first + used) here (omega (arith, none)) are in
+      absurd (omega (arith, none, some, ap length no_here, ap length same, length-append (replaced_from first xs here) more, length-replaced first xs here, size)))
+]

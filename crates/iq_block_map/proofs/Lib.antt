@@ -3,6 +3,7 @@ pub mod ObjectLemmas
 pub mod ReadLemmas
 pub mod PutLemmas
 pub mod EditLemmas
+pub mod TouchLemmas
 pub mod LeafLemmas
 pub mod StepLemmas
 pub mod NextLemmas
@@ -11,3 +12,6 @@ pub mod NamedLemmas
 pub mod TopLemmas
 pub mod ReachLemmas
 pub mod FrameLaws
+pub mod ReachedLemmas
+pub mod TradeLaws
+pub mod PageLemmas

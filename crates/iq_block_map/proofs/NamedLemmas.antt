@@ -27,7 +27,7 @@ all_take P n xs each k d within =
 pub all_drop : (P : ℕ → Type 0) (n : ℕ) (xs : List ℕ) → All P xs → All P (drop n xs)
 all_drop P n xs each k d within = subst P (sym (get_or-drop n xs k d)) (each (n + k) d (omega (arith, within, length-drop n xs)))
 
-all_set : (P : ℕ → Type 0) (xs : List ℕ) (i a : ℕ) → All P xs → P a → All P (slice_set xs i a)
+pub all_set : (P : ℕ → Type 0) (xs : List ℕ) (i a : ℕ) → All P xs → P a → All P (slice_set xs i a)
 all_set P xs i a each here k d within = elim (cases_eq k i) [
   | inl same ↦
       (let inside : i < length xs = omega (arith, within, same, length-set xs i a) in
@@ -50,14 +50,14 @@ each_of p [] pass k d within = absurd (omega (arith, within))
 each_of p (x ∷ xs) pass zero d within = (and_parts (p x) (list_all p xs) pass).0
 each_of p (x ∷ xs) pass (suc k) d within = each_of p xs (and_parts (p x) (list_all p xs) pass).1 k d (omega (arith, within))
 
-map_names : (all : List (List ℕ)) (level used at : ℕ) (xs : List ℕ) → map_at all level used at ≡ Ok xs → All (λ x. is_address (length all) x ≡ true) xs
+pub map_names : (all : List (List ℕ)) (level used at : ℕ) (xs : List ℕ) → map_at all level used at ≡ Ok xs → All (λ x. is_address (length all) x ≡ true) xs
 map_names all level used at xs is = go (is_map (length all) level used at (block_of all at)) refl is
   where
     go : (b : Bool) → is_map (length all) level used at (block_of all at) ≡ b
         → (if b then Ok (take used (places (block_of all at))) else Err at) ≡ Ok xs → All (λ x. is_address (length all) x ≡ true) xs
     go true right same =
         let is : take used (places (block_of all at)) ≡ xs = cc in
-        let named = (and_parts _ _ (and_parts _ _ right).1).0 in
+        let named = (and_parts _ _ (and_parts _ _ (and_parts _ _ right).1).1).0 in
         subst (All (λ x. is_address (length all) x ≡ true)) is (each_of (is_address (length all)) (take used (places (block_of all at))) named)
     go false right same = cc
 

@@ -1,8 +1,9 @@
 -- What was written, one call after the other.
-use Rattle.std.specs.Prelude.{◌≡◌, ℕ, ◌-◌, ◌<◌, ◌≤◌, Bool, true, false, ◌||◌, List, [], ◌∷◌, ◌++◌, length, take, nat_eq, Option, Some, slice_index, slice_set, Result, Ok, Err}
+use Rattle.std.specs.Prelude.{◌≡◌, ℕ, ◌-◌, ◌<◌, ◌≤◌, Bool, true, false, ◌||◌, List, [], ◌∷◌, ◌++◌, length, take, nat_eq, Option, Some, slice_index, slice_index_or, slice_set, Result, Ok, Err}
+use Rattle.std.specs.List.{All}
 use Rattle.std.proofs.Common.{refl, sym, ap, ◌∙◌, inl, inr, arith, append_assoc, length-append}
 use Rattle.std.proofs.lemmas.List.{take_at}
-use Rattle.std.proofs.lemmas.Bool.{eq-eqb, cases_lt, ltb-true, and_parts}
+use Rattle.std.proofs.lemmas.Bool.{eq-eqb, cases_lt, le-leb, lt-ltb}
 use Rattle.iq_outside.specs.declared.device.Device.{Ghosts}
 use Rattle.iq_outside.specs.Devices.{SameBut, Stored}
 use Rattle.iq_outside.specs.DeviceCalls.{KeepsPast, HasWritten}
@@ -150,14 +151,30 @@ looked_same g now = record {
     same : (t : ℕ) → g.clock now ≤ t → t ≤ g.clock now → t ≡ g.clock now
     same t since until = omega (arith, since, until)
 
+-- a number behind the roots and within a store is an address
+pub address_is : (count a : ℕ) → 4 ≤ a → a < count → is_address count a ≡ true
+address_is count a above below = rw (le-leb 4 a above, lt-ltb a count below) refl
+
+-- blocks that may be taken are addresses of the store that is told
+pub spare_inside : (told : Option (List (List ℕ))) (all : List (List ℕ)) (left : List ℕ) → AreSpare told left → told ≡ Some all
+    → All (λ b. is_address (length all) b ≡ true) left
+spare_inside told all left spare is k d within =
+    address_is (length all) (slice_index_or left k d) (spare.above k d within) (spare.below all is k d within)
+
 -- the first of the blocks that may be taken is in the store
 pub first_inside : (told : Option (List (List ℕ))) (all : List (List ℕ)) (at : ℕ) (before after : List ℕ) → AreSpare told before → told ≡ Some all
     → before ≡ at ∷ after → at < length all
 first_inside told all at before after spare is head =
     let some : 0 < length before = omega (arith, ap length head) in
-    let first : is_address (length all) (slice_index before 0) ≡ true = spare.inside all is 0 0 some in
-    let address : is_address (length all) at ≡ true = ap (λ (xs : List ℕ). is_address (length all) (slice_index xs 0)) (sym head) ∙ first in
-    ltb-true _ _ (and_parts _ _ address).1
+    let first : slice_index before 0 < length all = spare.below all is 0 0 some in
+    omega (arith, first, ap (λ (xs : List ℕ). slice_index xs 0) head)
+
+-- and behind the roots
+pub first_above : (told : Option (List (List ℕ))) (at : ℕ) (before after : List ℕ) → AreSpare told before → before ≡ at ∷ after → 4 ≤ at
+first_above told at before after spare head =
+    let some : 0 < length before = omega (arith, ap length head) in
+    let first : 4 ≤ slice_index before 0 = spare.above 0 0 some in
+    omega (arith, first, ap (λ (xs : List ℕ). slice_index xs 0) head)
 
 -- a block that was written well is in its place
 pub written_ok : {U E : Type 0} (result : Result U E) (at : ℕ) (block : List ℕ) (old new : Option (List (List ℕ))) {u : U} → result ≡ Ok u

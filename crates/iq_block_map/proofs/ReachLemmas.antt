@@ -1,17 +1,16 @@
 -- An object reads the same where no block that it reaches was written.
-use Rattle.std.specs.Prelude.{◌≡◌, ◌⊎◌, ℕ, zero, suc, ◌+◌, ◌*◌, ◌/◌, ◌%◌, ◌^◌, ◌<◌, ◌≤◌, Bool, true, false, List, [], ◌∷◌, ◌++◌, length, drop, map, nat_eq, slice_index, slice_set, if◌then◌else◌, Result, Ok, Err, Option, Some, None, IfOk, IfErr}
+use Rattle.std.specs.Prelude.{◌≡◌, ℕ, zero, suc, ◌+◌, ◌*◌, ◌/◌, ◌%◌, ◌^◌, ◌<◌, ◌≤◌, Bool, true, false, List, [], ◌∷◌, ◌++◌, length, drop, map, nat_eq, slice_index, slice_set, if◌then◌else◌, Result, Ok, Err, Option, Some, None}
 use Rattle.std.specs.List.{All, list_all, IsDistinct}
 use Rattle.std.proofs.Common.{refl, sym, ap, subst, ◌∙◌, inl, inr, arith}
 use Rattle.std.proofs.lemmas.List.{get_or-take, get_or-drop}
 use Rattle.std.proofs.lemmas.Bool.{and_parts, cases_lt}
 use Rattle.iq_outside.specs.Devices.{block_of}
-use Rattle.iq_block_store.specs.Frames.{has_header, payload_of, framed}
+use Rattle.iq_block_store.specs.Frames.{page_kind, has_header, payload_of, framed}
 use Rattle.iq_block_store.proofs.FrameLemmas.{has_header-framed, payload_of-framed}
 use Rattle.iq_base.specs.declared.refs.Ref.{Ref}
-use Rattle.iq_block_map.specs.Maps.{page_kind}
-use Rattle.iq_block_map.specs.Objects.{leaf_count, used_in, leaves_of, listed_in, joined, address_of, address_in, addresses_of, at_place, contents, pages_of}
+use Rattle.iq_block_map.specs.Objects.{leaf_count, used_in, leaves_of, listed_in, joined, address_of, address_in, addresses_of, blocks_of, top_of, at_place, contents, pages_of}
 use Rattle.iq_block_map.specs.Writing.{holds, SameBeside}
-use Rattle.iq_block_map.specs.Editing.{piece, AreApart, IsBadMap, HasRemapped}
+use Rattle.iq_block_map.specs.Editing.{piece, AreApart, HasRemapped}
 use Rattle.iq_block_map.proofs.PutLemmas.{holds-append}
 use Rattle.iq_block_map.proofs.StepLemmas.{listed_same, listed_at, map_same}
 use Rattle.iq_block_map.proofs.NextLemmas.{distinct_parts}
@@ -24,7 +23,7 @@ pub record IsFree (all now : List (List ℕ)) (object : Ref) (before taken left 
   pub split : before ≡ taken ++ left
   pub apart : AreApart all object before
 
-free_of : (all now : List (List ℕ)) (object : Ref) (before taken left : List ℕ) → IsFree all now object before taken left → (b : ℕ)
+pub free_of : (all now : List (List ℕ)) (object : Ref) (before taken left : List ℕ) → IsFree all now object before taken left → (b : ℕ)
     → holds before b ≡ false → (holds taken b ≡ false) × (holds left b ≡ false)
 free_of all now object before taken left free b none = holds-append taken left b (ap (λ (t : List ℕ). holds t b) (sym free.split) ∙ none)
 
@@ -121,11 +120,11 @@ is_page all a = has_header page_kind a (block_of all a)
 content_of : List (List ℕ) → ℕ → List ℕ
 content_of all a = payload_of (block_of all a)
 
-cut_some : (b : Bool) (xs ys : List (List ℕ)) → (if b then Some xs else None) ≡ Some ys → (b ≡ true) × (xs ≡ ys)
+pub cut_some : (b : Bool) (xs ys : List (List ℕ)) → (if b then Some xs else None) ≡ Some ys → (b ≡ true) × (xs ≡ ys)
 cut_some true xs ys is = (refl, cc)
 cut_some false xs ys is = cc
 
-pages_from : (all : List (List ℕ)) (xs : List ℕ) (ps : List (List ℕ))
+pub pages_from : (all : List (List ℕ)) (xs : List ℕ) (ps : List (List ℕ))
     → list_all (λ a. has_header page_kind a (block_of all a)) xs ≡ true → map (λ a. payload_of (block_of all a)) xs ≡ ps → ArePages all xs ps
 pages_from all [] [] right is = tt
 pages_from all [] (p ∷ ps) right is = cc
@@ -150,7 +149,7 @@ pages_held all object ps is = go (addresses_of all object) refl
         let parts = cut_some (list_all (λ a. has_header page_kind a (block_of all a)) xs) (map (λ a. payload_of (block_of all a)) xs) ps (sym (ap (contents all) good) ∙ is) in
         (xs, good, pages_from all xs ps parts.0 parts.1)
 
-all_right : (all : List (List ℕ)) (xs : List ℕ) (ps : List (List ℕ)) → ArePages all xs ps
+pub all_right : (all : List (List ℕ)) (xs : List ℕ) (ps : List (List ℕ)) → ArePages all xs ps
     → (list_all (λ a. has_header page_kind a (block_of all a)) xs ≡ true) × (map (λ a. payload_of (block_of all a)) xs ≡ ps)
 all_right all [] [] are = (refl, refl)
 all_right all [] (p ∷ ps) are = absurd are
@@ -225,29 +224,21 @@ old_pages all mid now object before taken left taken' after at from xs ps paged 
     let later = holds-append taken' after (slice_index xs i) (ap (λ (t : List ℕ). holds t (slice_index xs i)) (sym paged.split) ∙ free.1) in
     paged.same.others (slice_index xs i) later.0 ∙ paged.free.same.others (slice_index xs i) free.0)
 
--- a result that says as much in other words
-pub ok_on : {T E : Type 0} (P Q : T → Type 0) (r : Result T E) → ((x : T) → P x → Q x) → IfOk r P → IfOk r Q
-ok_on P Q (Ok x) pass is = pass x is
-ok_on P Q (Err e) pass is = tt
-
-pub err_on : {T E : Type 0} (P Q : E → Type 0) (r : Result T E) → ((e : E) → P e → Q e) → IfErr r P → IfErr r Q
-err_on P Q (Ok x) pass is = tt
-err_on P Q (Err e) pass is = pass e is
-
--- a bad map that is met after something else was written was bad before
-pub bad_before : (all now : List (List ℕ)) (object : Ref) (before taken left : List ℕ) (b : ℕ) → IsFree all now object before taken left
-    → (leaves_of now object ≡ Err b) ⊎ IsBadMap object b now → (leaves_of all object ≡ Err b) ⊎ IsBadMap object b all
-bad_before all now object before taken left b free (inl top) = inl (sym (leaves_same all now object before taken left free) ∙ top)
-bad_before all now object before taken left b free (inr bad) =
-    let leaves : leaves_of all object ≡ Ok bad.ls = sym (leaves_same all now object before taken left free) ∙ bad.leaves in
-    let apart = free_of all now object before taken left free (slice_index bad.ls bad.k) (free.apart.leaves bad.ls leaves bad.k 0 bad.within) in
-    inr record {
-      ls = bad.ls;
-      k = bad.k;
-      leaves = leaves;
-      within = bad.within;
-      bad = sym (map_same all now 1 (used_in object.pages bad.k) (slice_index bad.ls bad.k) free.same.size (free.same.others (slice_index bad.ls bad.k) apart.0)) ∙ bad.bad;
-    }
+-- and all that it reaches
+blocks_same : (all now : List (List ℕ)) (object : Ref) (before taken left : List ℕ) → IsFree all now object before taken left
+    → blocks_of now object ≡ blocks_of all object
+blocks_same all now object before taken left free =
+    ap (λ (r : Result (List ℕ) ℕ). joined (Ok (top_of true object)) (listed_in true now object.pages r)) (leaves_same all now object before taken left free)
+    ∙ go (leaves_of all object) refl
+  where
+    go : (r : Result (List ℕ) ℕ) → leaves_of all object ≡ r
+        → joined (Ok (top_of true object)) (listed_in true now object.pages r) ≡ joined (Ok (top_of true object)) (listed_in true all object.pages r)
+    go (Err b) is = refl
+    go (Ok ls) is =
+        ap (joined (Ok (top_of true object)))
+        (listed_same true all now object.pages ls free.same.size
+        (λ j inside.
+        free.same.others (slice_index ls j) (free_of all now object before taken left free (slice_index ls j) (free.apart.leaves ls is j 0 inside)).0))
 
 -- what became of an object as it was after a page was put became of it as it was before
 pub remapped_before : (all mid now : List (List ℕ)) (object new : Ref) (before taken left : List ℕ) (xs ys zs rest after : List ℕ)
@@ -258,4 +249,10 @@ remapped_before all mid now object new before taken left xs ys zs rest after fre
       addresses = remapped.addresses;
       count = remapped.count;
       maps = λ ls ms is_old is_new. remapped.maps ls ms (leaves_same all mid object before taken left free ∙ is_old) is_new;
+      apart = remapped.apart;
+      reach = record {
+        blocks = remapped.reach.blocks;
+        is = remapped.reach.is;
+        among = λ reached is. remapped.reach.among reached (blocks_same all mid object before taken left free ∙ is);
+      };
     }

@@ -1,19 +1,19 @@
 -- All leaves of an object, written anew where they changed.
-use Rattle.std.specs.Prelude.{◌≡◌, ◌≢◌, ℕ, zero, suc, ◌+◌, ◌-◌, ◌*◌, ◌^◌, ◌<◌, ◌≤◌, Bool, true, false, List, [], ◌∷◌, ◌++◌, length, take, drop, nat_eq, slice_index, slice_index_or, slice_set, Result, Ok, Err, Option, Some, None}
+use Rattle.std.specs.Prelude.{◌≡◌, ◌≢◌, ℕ, zero, suc, ◌+◌, ◌-◌, ◌*◌, ◌^◌, ◌<◌, ◌≤◌, Bool, true, false, List, [], ◌∷◌, ◌++◌, length, take, drop, nat_eq, slice_index, slice_index_or, slice_set, Result, Ok, Err, IsOk, is_ok, Option, Some, None}
 use Rattle.std.specs.List.{All, list_all, IsDistinct}
-use Rattle.std.proofs.Common.{refl, sym, ap, subst, ◌∙◌, inl, inr, arith, length-append}
+use Rattle.std.proofs.Common.{refl, sym, ap, subst, ◌∙◌, inl, inr, arith, length-append, get_or-set_same, get_or-set_other}
 use Rattle.std.proofs.lemmas.List.{get_or-take, get_or-drop, length-take, drop_all, take_all, drop-drop, drop-set-lt, get_or-append_right}
 use Rattle.std.proofs.lemmas.Bool.{and_parts, eq-eqb, ne_eqb, eqb-true, cases_lt, cases_eq}
 use Rattle.iq_outside.specs.declared.device.Device.{Ghosts}
 use Rattle.iq_outside.specs.Devices.{block_of}
 use Rattle.iq_base.specs.declared.refs.Ref.{Ref}
 use Rattle.iq_block_map.specs.Maps.{is_address}
-use Rattle.iq_block_map.specs.Refs.{MayBe}
+use Rattle.iq_block_map.specs.Refs.{IsPlace, MayBe}
 use Rattle.iq_block_map.specs.Objects.{leaf_count, used_in, map_at}
 use Rattle.iq_block_map.specs.Takers.{AreSpare, taken_of}
 use Rattle.iq_block_map.specs.Writing.{holds, SameBeside, HasPut}
-use Rattle.iq_block_map.specs.Editing.{piece, differing, one_unless, same_list}
-use Rattle.iq_block_map.specs.Leaves.{leaf_at, EndsLeaf, IsOpened, AreOpened, IsBadLeaf, HasLeaves, HasLeavesAt, LacksLeaf}
+use Rattle.iq_block_map.specs.Editing.{piece, differing, one_unless, same_list, is_touched}
+use Rattle.iq_block_map.specs.Leaves.{leaf_at, EndsLeaf, IsOpened, AreOpened, ReadsLeaves, IsBadOne, IsBadPlace, HasLeaves, HasLeavesAt, LacksLeaf}
 use Rattle.iq_block_map.proofs.PutLemmas.{holds-append}
 use Rattle.iq_block_map.proofs.StepLemmas.{IsSoFar, so_far_more, listed_at, map_same, same_list-not, differing_more, differing_grows}
 use Rattle.iq_block_map.proofs.NextLemmas.{distinct_parts, head_apart, stays_next, makes_next, behind_of}
@@ -52,13 +52,46 @@ pub spare_after : {D : Type 0} (g : Ghosts D) (before after : List ℕ) (old new
     → HasPut g before after old new → AreSpare (g.blocks new) after
 spare_after g before after old new spare put = record {
   distinct = distinct_after (taken_of before after) after (subst (IsDistinct nat_eq) put.left spare.distinct);
-  inside = λ now told.
+  above = all_after (λ b. 4 ≤ b) (taken_of before after) after (subst (All (λ b. 4 ≤ b)) put.left spare.above);
+  below = λ now told.
       let there = put_told g before after old new now put told in
-      let each = spare.inside there.0 there.1 in
-      subst (λ (n : ℕ). All (λ b. is_address n b ≡ true) after) (sym there.2.size)
-      (all_after (λ b. is_address (length there.0) b ≡ true) (taken_of before after) after
-      (subst (All (λ b. is_address (length there.0) b ≡ true)) put.left each));
+      let each = spare.below there.0 there.1 in
+      subst (λ (n : ℕ). All (λ b. b < n) after) (sym there.2.size)
+      (all_after (λ b. b < length there.0) (taken_of before after) after
+      (subst (All (λ b. b < length there.0)) put.left each));
 }
+
+-- a block that could be named before can be named after
+pub place_after : {D : Type 0} (g : Ghosts D) (before after : List ℕ) (old new : D) (b : ℕ) → IsPlace (g.blocks old) b
+    → HasPut g before after old new → IsPlace (g.blocks new) b
+place_after g before after old new b place put = record {
+  above = place.above;
+  below = λ now told.
+      let there = put_told g before after old new now put told in
+      let inside = place.below there.0 there.1 in
+      omega (arith, inside, there.2.size);
+}
+
+-- and one that can be named after could be before
+pub place_before : {D : Type 0} (g : Ghosts D) (before after : List ℕ) (old new : D) (b : ℕ) → IsPlace (g.blocks new) b
+    → HasPut g before after old new → IsPlace (g.blocks old) b
+place_before g before after old new b place put = record {
+  above = place.above;
+  below = λ all told.
+      let there = put.content all told in
+      let inside = place.below there.0 there.1 in
+      omega (arith, inside, there.2.size);
+}
+
+-- the first leaf, after one was put in its place
+pub first_more : (told : Option (List (List ℕ))) (ms : List ℕ) (k made : ℕ) → 0 < length ms → (1 ≤ k → IsPlace told (slice_index ms 0))
+    → (k ≡ 0 → IsPlace told made) → IsPlace told (slice_index (slice_set ms k made) 0)
+first_more told ms k made some had put = elim (cases_eq k 0) [
+  | inl none ↦
+      subst (IsPlace told) (sym (ap (λ (n : ℕ). slice_index (slice_set ms n made) 0) none ∙ get_or-set_same ms 0 made 0 some)) (put none)
+  | inr more ↦
+      subst (IsPlace told) (sym (get_or-set_other ms k 0 made 0 (λ is. more (sym is)))) (had (omega (arith, more)))
+]
 
 zero_at : (zs : List ℕ) (k : ℕ) → list_all (nat_eq 0) zs ≡ true → slice_index zs k ≡ 0
 zero_at [] k are = refl
@@ -187,12 +220,19 @@ leaves_done all now old xs ys ls ms before after k so_far opened end grown few l
       rest = rest;
     }
 
--- a leaf that isn't right wasn't before
-pub bad_leaf : (all now : List (List ℕ)) (old : Ref) (ls before taken after : List ℕ) (k b at used : ℕ) → AreOpened all old ls before
-    → SameBeside taken all now → before ≡ taken ++ after → old.pages ≤ 63504 → used ≡ used_in old.pages k → at ≡ slice_index ls k → b ≡ at
-    → leaf_at now used at ≡ Err at → IsBadLeaf old ls b all
-bad_leaf all now old ls before taken after k b at used opened same split few used_is at_is b_is bad = elim (cases_eq used 0) [
-  | inl none ↦ absurd (never (eq-eqb used 0 none) bad)
+-- a leaf reads the same where its block is the same
+same_leaf : (all now : List (List ℕ)) (used at : ℕ) → length now ≡ length all → block_of now at ≡ block_of all at
+    → leaf_at now used at ≡ leaf_at all used at
+same_leaf all now used at size same = rw (size, same) refl
+
+-- a leaf that is read while others are written was the same before
+pub leaf_same : (all now : List (List ℕ)) (old : Ref) (ls before taken after : List ℕ) (k at used : ℕ) → AreOpened all old ls before
+    → SameBeside taken all now → before ≡ taken ++ after → old.pages ≤ 63504 → used ≡ used_in old.pages k → at ≡ slice_index ls k
+    → leaf_at now used at ≡ leaf_at all (used_in old.pages k) (slice_index ls k)
+leaf_same all now old ls before taken after k at used opened same split few used_is at_is = elim (cases_eq used 0) [
+  | inl none ↦
+      ap (λ (n : ℕ). leaf_at now n at) none
+      ∙ ap (λ (n : ℕ). leaf_at all n (slice_index ls k)) (sym none ∙ used_is)
   | inr some ↦
       (let within : k < leaf_count old.pages = omega (arith, some, used_is) in
       let fits : leaf_count old.pages ≤ 252 = omega (arith, few) in
@@ -200,14 +240,75 @@ bad_leaf all now old ls before taken after k b at used opened same split few use
       let apart : holds before (slice_index ls k) ≡ false
       = ap (holds before) (sym (get_or-take (leaf_count old.pages) ls k 0 within)) ∙ opened.apart k 0 (omega (arith, within, size)) in
       let free = holds-append taken after (slice_index ls k) (ap (λ (t : List ℕ). holds t (slice_index ls k)) (sym split) ∙ apart) in
-      let map : map_at now 1 used at ≡ Err at = read (ne_eqb used 0 some) bad in
+      ap (leaf_at now used) at_is
+      ∙ same_leaf all now used (slice_index ls k) same.size (same.others (slice_index ls k) free.0)
+      ∙ ap (λ (n : ℕ). leaf_at all n (slice_index ls k)) used_is)
+]
+
+-- a leaf with pages is its map
+pub leaf_is_map : (all : List (List ℕ)) (used at : ℕ) → 1 ≤ used → leaf_at all used at ≡ map_at all 1 used at
+leaf_is_map all used at some =
+    let other : nat_eq used 0 ≡ false = ne_eqb used 0 (omega (arith, some)) in
+    rw other refl
+
+-- a leaf that was read right, by its place in the list of leaves
+pub leaf_right : (all : List (List ℕ)) (old : Ref) (ps : List ℕ) (k : ℕ) → k < leaf_count old.pages
+    → IsOk (map_at all 1 (used_in old.pages k) (slice_index ps k))
+    → IsOk (map_at all 1 (used_in old.pages k) (slice_index (take (leaf_count old.pages) ps) k))
+leaf_right all old ps k within right =
+    ap (λ (a : ℕ). is_ok (map_at all 1 (used_in old.pages k) a)) (get_or-take (leaf_count old.pages) ps k 0 within) ∙ right
+
+-- what a leaf names, or nothing behind the last one
+pub leaf_from : (all : List (List ℕ)) (old : Ref) (ps xs : List ℕ) (k : ℕ) → length (take (leaf_count old.pages) ps) ≡ leaf_count old.pages → length xs ≡ old.pages
+    → (k < length (take (leaf_count old.pages) ps)
+    → map_at all 1 (used_in old.pages k) (slice_index (take (leaf_count old.pages) ps) k) ≡ Ok (piece k xs))
+    → leaf_at all (used_in old.pages k) (slice_index ps k) ≡ Ok (piece k xs)
+leaf_from all old ps xs k size count right = elim (cases_lt k (leaf_count old.pages)) [
+  | inl within ↦
+      leaf_is_map all (used_in old.pages k) (slice_index ps k) (omega (arith, within))
+      ∙ ap (map_at all 1 (used_in old.pages k)) (sym (get_or-take (leaf_count old.pages) ps k 0 within))
+      ∙ right (omega (arith, within, size))
+  | inr behind ↦
+      (let none : used_in old.pages k ≡ 0 = omega (arith, behind) in
+      let empty : piece k xs ≡ [] = ap (take 252) (drop_all (252 * k) xs (omega (arith, behind, count))) in
+      ap (λ (n : ℕ). leaf_at all n (slice_index ps k)) none ∙ ap Ok (sym empty))
+]
+
+-- one leaf more was read right, where the edit touches it
+pub reads_next : (all : List (List ℕ)) (old : Ref) (ls : List ℕ) (cs : List (ℕ × ℕ)) (added : List ℕ) (k : ℕ) → ReadsLeaves all old ls cs added k
+    → (k < leaf_count old.pages → is_touched old.pages cs added k ≡ true → IsOk (leaf_at all (used_in old.pages k) (slice_index ls k)))
+    → ReadsLeaves all old ls cs added (k + 1)
+reads_next all old ls cs added k before here j within early touched = elim (cases_lt j k) [
+  | inl less ↦ before j within less touched
+  | inr last ↦
+      (let is : j ≡ k = omega (arith, last, early) in
+      let inside : k < leaf_count old.pages = omega (arith, is, within) in
+      let right = here inside (ap (is_touched old.pages cs added) (sym is) ∙ touched) in
+      let map = leaf_is_map all (used_in old.pages k) (slice_index ls k) (omega (arith, inside)) in
+      ap (λ (n : ℕ). is_ok (map_at all 1 (used_in old.pages n) (slice_index ls n))) is ∙ sym (ap is_ok map) ∙ right)
+]
+
+pub reads_more : (all : List (List ℕ)) (old : Ref) (ls : List ℕ) (cs : List (ℕ × ℕ)) (added : List ℕ) (k : ℕ) → ReadsLeaves all old ls cs added k
+    → (is_touched old.pages cs added k ≡ true → IsOk (leaf_at all (used_in old.pages k) (slice_index ls k)))
+    → ReadsLeaves all old ls cs added (k + 1)
+reads_more all old ls cs added k before here = reads_next all old ls cs added k before (λ within. here)
+
+-- a leaf that had to be read and isn't right
+pub bad_place : (now : List (List ℕ)) (old : Ref) (ls : List ℕ) (cs here : List (ℕ × ℕ)) (added more : List ℕ) (k at used b : ℕ)
+    → used ≡ used_in old.pages k → at ≡ slice_index ls k → (k < leaf_count old.pages → 1 ≤ length here + length more → is_touched old.pages cs added k ≡ true)
+    → IsBadOne used at here more b now → IsBadPlace old ls cs added b now
+bad_place now old ls cs here added more k at used b used_is at_is touched bad = elim (cases_eq used 0) [
+  | inl none ↦ absurd (never (eq-eqb used 0 none) bad.bad)
+  | inr some ↦
+      (let within : k < leaf_count old.pages = omega (arith, some, used_is) in
       record {
         k = k;
         within = within;
+        touched = touched within bad.some;
         bad =
-            ap (λ (n : ℕ). map_at all 1 n (slice_index ls k)) (sym used_is)
-            ∙ sym (map_same all now 1 used (slice_index ls k) same.size (same.others (slice_index ls k) free.0))
-            ∙ ap (map_at now 1 used) (sym at_is) ∙ map ∙ ap Err (sym b_is);
+            ap (λ (n : ℕ). map_at now 1 n (slice_index ls k)) (sym used_is)
+            ∙ ap (map_at now 1 used) (sym at_is)
+            ∙ sym (leaf_is_map now used at (omega (arith, some))) ∙ bad.bad ∙ ap Err (sym bad.is);
       })
 ]
   where
@@ -216,9 +317,6 @@ bad_leaf all now old ls before taken after k b at used opened same split few use
       where
         no_err : ◌≡◌ {A = Result (List ℕ) ℕ} (Ok []) (Err at) → ⊥
         no_err wrong = cc
-
-    read : nat_eq used 0 ≡ false → leaf_at now used at ≡ Err at → map_at now 1 used at ≡ Err at
-    read some is = rw some at is
 
 -- no block is left for a leaf that must be written
 pub lacks_leaf : (all now : List (List ℕ)) (xs ys ls ms before after : List ℕ) (k : ℕ) → IsSoFar all now xs ys ls ms before after k → after ≡ []

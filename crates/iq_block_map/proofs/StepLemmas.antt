@@ -1,5 +1,5 @@
 -- Leaves written one after the other.
-use Rattle.std.specs.Prelude.{◌≡◌, ◌⊎◌, ℕ, zero, suc, ◌+◌, ◌-◌, ◌*◌, ◌<◌, ◌≤◌, min, Bool, true, false, List, [], ◌∷◌, ◌++◌, length, take, drop, nat_eq, slice_index, slice_set, if◌then◌else◌, Result, Ok, Err, ◌≢◌}
+use Rattle.std.specs.Prelude.{◌≡◌, ◌⊎◌, ℕ, zero, suc, ◌+◌, ◌-◌, ◌*◌, ◌<◌, ◌≤◌, min, Bool, true, false, List, [], ◌∷◌, ◌++◌, length, take, drop, nat_eq, nat_le, ◌||◌, slice_index, slice_set, if◌then◌else◌, Result, Ok, Err, ◌≢◌}
 use Rattle.std.proofs.Common.{refl, sym, ap, subst, ◌∙◌, inl, inr, arith, append_assoc, append-nil, get_or-set_other, get_or-set_same}
 use Rattle.std.proofs.lemmas.List.{take_at, drop_at, take_all, take_more_set, length-take, length-drop, drop-drop, drop-take, take-take, take-append-drop, get_or-take, get_or-drop}
 use Rattle.std.proofs.lemmas.Bool.{cases_lt, cases_Bool, eqb-true, and_parts, eq-eqb}
@@ -7,7 +7,7 @@ use Rattle.iq_outside.specs.Devices.{block_of}
 use Rattle.iq_block_map.specs.Maps.{places, is_address, is_map}
 use Rattle.iq_block_map.specs.Objects.{leaf_count, used_in, map_at, joined, front, listed}
 use Rattle.iq_block_map.specs.Writing.{holds}
-use Rattle.iq_block_map.specs.Editing.{piece, fresh, differing, same_list, one_unless}
+use Rattle.iq_block_map.specs.Editing.{piece, fresh, differing, same_list, one_unless, maps_needed}
 use Rattle.iq_block_map.proofs.MapLemmas.{length-places}
 
 -- a map reads the same where its block is the same
@@ -266,3 +266,17 @@ so_far_more all now now' xs ys ls ms before after after' k made within few so_fa
           (λ j early is. so_far.differs j early (sym (put_before ms k made j early) ∙ is))
           (λ is. next.differs (sym (put_here ms k made within) ∙ is));
     }
+
+one_few : (b : Bool) → one_unless b ≤ 1
+one_few true = omega arith
+one_few false = omega arith
+
+differing_few : (n : ℕ) (xs ys : List ℕ) → differing n xs ys ≤ n
+differing_few zero xs ys = omega arith
+differing_few (suc n) xs ys =
+    let rest = differing_few n xs ys in
+    omega (arith, rest, one_few (same_list (piece n ys) (piece n xs)))
+
+-- an object needs no more maps than it has leaves, and one
+pub needed_few : (xs ys : List ℕ) → maps_needed xs ys ≤ leaf_count (length ys) + 1
+needed_few xs ys = omega (arith, differing_few (leaf_count (length ys)) xs ys, one_few (nat_le (length ys) 252 || same_list ys xs))

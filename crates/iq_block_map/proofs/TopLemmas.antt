@@ -4,21 +4,34 @@ use Rattle.std.specs.List.{All}
 use Rattle.std.proofs.Common.{refl, sym, ap, subst, ◌∙◌, inl, inr, arith, append_assoc, append-nil, length-set, get_or-set_other}
 use Rattle.std.proofs.lemmas.List.{ext_get_or, get_or-take, get_or-drop, get_or_past, length-take, take_all, take-append-drop}
 use Rattle.std.proofs.lemmas.Bool.{and_parts, eq-eqb, ne_eqb, cases_lt, lt-ltb, le-ltb, le-leb, lt-leb}
+use Rattle.iq_outside.specs.declared.device.Device.{Ghosts}
 use Rattle.iq_outside.specs.Devices.{block_of}
 use Rattle.iq_base.specs.declared.refs.Ref.{Ref}
 use Rattle.iq_block_map.specs.Maps.{is_address, map_block}
-use Rattle.iq_block_map.specs.Refs.{MayBe}
+use Rattle.iq_block_map.specs.Refs.{IsIn, MayBe}
 use Rattle.iq_block_map.specs.Objects.{leaf_count, map_at, leaves_of, listed, listed_in, joined, top_of, addresses_of}
-use Rattle.iq_block_map.specs.Writing.{holds, SameBeside}
-use Rattle.iq_block_map.specs.Editing.{piece, fresh, AreApart, HasRemapped, edited, differing, same_list, one_unless, maps_needed}
+use Rattle.iq_block_map.specs.Writing.{holds, SameBeside, HasPut}
+use Rattle.iq_block_map.specs.Editing.{piece, fresh, AreApart, SharesMaps, edited, differing, same_list, one_unless, maps_needed}
 use Rattle.iq_block_map.specs.Leaves.{padded, HasLeaves, OnlyLeaf, SameTop, NewTop, EndsTop}
 use Rattle.iq_block_map.proofs.ObjectLemmas.{joined-nil}
 use Rattle.iq_block_map.proofs.PutLemmas.{holds-append}
 use Rattle.iq_block_map.proofs.LeafLemmas.{padded_of, map_written}
 use Rattle.iq_block_map.proofs.StepLemmas.{listed_same, map_same, take_piece, ok_is, length_map, same_list-self, same_list-not}
 use Rattle.iq_block_map.proofs.NextLemmas.{head_apart, below_of, behind_of}
-use Rattle.iq_block_map.proofs.RewriteLemmas.{spare_zero}
+use Rattle.iq_block_map.proofs.RewriteLemmas.{spare_zero, put_told}
 use Rattle.iq_block_map.proofs.NamedLemmas.{each_of, listed_count}
+
+-- a reference that could stand in a store can stand there after some blocks were written
+pub in_after : {D : Type 0} (g : Ghosts D) (before after : List ℕ) (old new : D) (object : Ref) → IsIn (g.blocks old) object
+    → HasPut g before after old new → IsIn (g.blocks new) object
+in_after g before after old new object is put = record {
+  few = is.few;
+  above = is.above;
+  below = λ some now told.
+      let there = put_told g before after old new now put told in
+      let inside = is.below some there.0 there.1 in
+      omega (arith, inside, there.2.size);
+}
 
 -- where lists have the same items in the same places, as far as the other goes
 pub fresh_same : (xs xs' ys : List ℕ) → ((j : ℕ) → j < length ys → slice_index xs j ≡ slice_index xs' j) → fresh xs ys ≡ fresh xs' ys
@@ -71,7 +84,7 @@ leaves_none all object none = rw (eq-eqb object.pages 0 none) refl
 pub leaves_many : (all : List (List ℕ)) (object : Ref) → 252 < object.pages → leaves_of all object ≡ map_at all 2 (leaf_count object.pages) object.root
 leaves_many all object many = rw (ne_eqb object.pages 0 (omega (arith, many)), lt-leb object.pages 252 many) refl
 
-top_none : (object : Ref) → object.pages ≤ 252 → top_of true object ≡ []
+pub top_none : (object : Ref) → object.pages ≤ 252 → top_of true object ≡ []
 top_none object few = rw (le-ltb 252 object.pages few) refl
 
 pub top_one : (object : Ref) → 252 < object.pages → top_of true object ≡ object.root ∷ []
@@ -101,6 +114,13 @@ ref_same a b roots pages = both
 take_one : (ms : List ℕ) → 0 < length ms → take 1 ms ≡ slice_index ms 0 ∷ []
 take_one [] some = absurd (omega (arith, some))
 take_one (m ∷ ms) some = refl
+
+-- an object with some pages became one with others, by its maps
+pub record Remaps (all now : List (List ℕ)) (old new : Ref) (xs ys before after : List ℕ) : Type 0 where
+  pub size : new.pages ≡ length ys
+  pub addresses : addresses_of now new ≡ Ok ys
+  pub count : length before ≡ maps_needed xs ys + length after
+  pub maps : (ls ms : List ℕ) → leaves_of all old ≡ Ok ls → leaves_of now new ≡ Ok ms → SharesMaps old new xs ys before after ls ms
 
 -- what is known before the topmost map is made
 pub record IsRebuilt (all mid : List (List ℕ)) (old : Ref) (ls ms xs ys before left taken : List ℕ) : Type 0 where
@@ -148,7 +168,7 @@ rebuilt_done : (all mid now : List (List ℕ)) (old new : Ref) (ls ms xs ys befo
     → listed false now (length ys) (take (leaf_count (length ys)) ms) ≡ Ok ys
     → left ≡ fresh (top_of true old) (top_of true new) ++ after → length left ≡ one_unless (nat_le (length ys) 252 || same_list ys xs) + length after
     → (ys ≡ xs → new ≡ old)
-    → HasRemapped all now old new xs ys before after
+    → Remaps all now old new xs ys before after
 rebuilt_done all mid now old new ls ms xs ys before left after taken rebuilt size leaves pages top top_count whole =
     let n = leaf_count (length ys) in
     let here : listed false now new.pages (take n ms) ≡ Ok ys = ap (λ (m : ℕ). listed false now m (take n ms)) size ∙ pages in
@@ -179,7 +199,7 @@ rebuilt_done all mid now old new ls ms xs ys before left after taken rebuilt siz
 -- the only leaf is the topmost map
 done_only : (all mid now : List (List ℕ)) (old new : Ref) (ls ms xs ys before left after taken : List ℕ)
     → IsRebuilt all mid old ls ms xs ys before left taken → new.pages ≡ length ys → OnlyLeaf mid now ms (length ys) new.root left after
-    → HasRemapped all now old new xs ys before after
+    → Remaps all now old new xs ys before after
 done_only all mid now old new ls ms xs ys before left after taken rebuilt size only =
     let one : leaf_count (length ys) ≡ 1 = omega (arith, rebuilt.some, only.few) in
     let first : take (leaf_count (length ys)) ms ≡ slice_index ms 0 ∷ []
@@ -206,7 +226,7 @@ done_only all mid now old new ls ms xs ys before left after taken rebuilt size o
 -- the topmost map stays
 done_same : (all mid now : List (List ℕ)) (old new : Ref) (ls ms xs ys before left after taken : List ℕ)
     → IsRebuilt all mid old ls ms xs ys before left taken → new.pages ≡ length ys → SameTop mid now old ls ms (length ys) new.root left after
-    → HasRemapped all now old new xs ys before after
+    → Remaps all now old new xs ys before after
 done_same all mid now old new ls ms xs ys before left after taken rebuilt size stays =
     let same : ys ≡ xs = same_pages all mid old ls ms xs ys before left taken rebuilt stays.leaves in
     let old_pages : old.pages ≡ length ys = sym rebuilt.count ∙ ap length (sym same) in
@@ -259,7 +279,7 @@ lacks_top all mid old ls ms xs ys before left may has few count many other none 
 -- the topmost map is written
 done_new : (all mid now : List (List ℕ)) (old new : Ref) (ls ms xs ys before left after taken : List ℕ)
     → IsRebuilt all mid old ls ms xs ys before left taken → new.pages ≡ length ys → NewTop mid now old ls ms (length ys) new.root left after
-    → HasRemapped all now old new xs ys before after
+    → Remaps all now old new xs ys before after
 done_new all mid now old new ls ms xs ys before left after taken rebuilt size made =
     let n = leaf_count (length ys) in
     let fits : n ≤ 252 = omega (arith, rebuilt.few) in
@@ -319,7 +339,7 @@ done_new all mid now old new ls ms xs ys before left after taken rebuilt size ma
 -- the new object has its pages, by maps that it shares where it can
 pub remap_done : (all mid now : List (List ℕ)) (old new : Ref) (ls ms xs ys before left after taken : List ℕ)
     → IsRebuilt all mid old ls ms xs ys before left taken → new.pages ≡ length ys → EndsTop mid now old ls ms (length ys) new.root left after
-    → HasRemapped all now old new xs ys before after
+    → Remaps all now old new xs ys before after
 remap_done all mid now old new ls ms xs ys before left after taken rebuilt size (inl only) =
     done_only all mid now old new ls ms xs ys before left after taken rebuilt size only
 remap_done all mid now old new ls ms xs ys before left after taken rebuilt size (inr (inl same)) =
@@ -393,7 +413,7 @@ needs_none xs = omega (
 
 -- nothing changes
 pub remap_none : (all now : List (List ℕ)) (old : Ref) (xs left : List ℕ) → now ≡ all → old.pages ≤ 63504 → addresses_of all old ≡ Ok xs
-    → HasRemapped all now old old xs (edited xs [] []) left left
+    → Remaps all now old old xs (edited xs [] []) left left
 remap_none all now old xs left same few is =
     let none : edited xs [] [] ≡ xs = append-nil xs in
     record {

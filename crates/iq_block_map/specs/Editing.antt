@@ -1,9 +1,10 @@
 -- Objects that share what didn't change.
-use Rattle.std.specs.Prelude.{◌≡◌, ℕ, ◌+◌, ◌-◌, ◌*◌, ◌<◌, ◌≤◌, true, false, List, [], ◌∷◌, ◌++◌, length, take, drop, nat_eq, if◌then◌else◌, slice_index, slice_set, Ok, Err, Option, Some, Bool, suc, zero, nat_le, ◌||◌, ◌&&◌}
-use Rattle.std.specs.List.{All, fold}
+use Rattle.std.specs.Prelude.{◌≡◌, ◌≢◌, ◌⊎◌, ℕ, ◌+◌, ◌-◌, ◌*◌, ◌/◌, ◌<◌, ◌≤◌, true, false, List, [], ◌∷◌, ◌++◌, length, take, drop, nat_eq, if◌then◌else◌, slice_index, slice_set, Ok, Err, IsOk, Option, Some, Bool, suc, zero, nat_le, nat_lt, ◌||◌, ◌&&◌}
+use Rattle.std.specs.List.{All, fold, list_any}
 use Rattle.iq_base.specs.declared.refs.Ref.{Ref}
 use Rattle.iq_block_map.specs.Maps.{is_address}
-use Rattle.iq_block_map.specs.Objects.{used_in, map_at, leaves_of, addresses_of, address_of, top_of, leaf_count}
+use Rattle.iq_block_map.specs.Objects.{used_in, map_at, leaves_of, addresses_of, address_of, blocks_of, top_of, leaf_count}
+use Rattle.iq_block_map.specs.Takers.{taken_of}
 use Rattle.iq_block_map.specs.Writing.{holds}
 
 -- pages with some replaced, each of which is a number, from a first one on, and a block
@@ -70,32 +71,92 @@ pub record SharesMaps (old new : Ref) (xs ys before after ls ms : List ℕ) : Ty
   pub leaves : (k : ℕ) → k < length ms → piece k ys ≡ piece k xs → slice_index ms k ≡ slice_index ls k
   pub whole : ys ≡ xs → new ≡ old
 
+-- whether some changes are of pages that a leaf names
+abbrev pub touches : ℕ → List (ℕ × ℕ) → Bool
+touches k changed = list_any (λ (c : ℕ × ℕ). nat_eq (c.0 / 252) k) changed
+
+-- whether an edit reads a leaf of so many pages: it changes a page of it, or adds one where the leaf isn't full
+abbrev pub is_touched : ℕ → List (ℕ × ℕ) → List ℕ → ℕ → Bool
+is_touched pages changed added k = touches k changed || (nat_lt 0 (length added) && nat_lt (used_in pages k) 252)
+
+-- an object stands in a store that is told, apart from what may be taken
+pub record StandsApart (told : Option (List (List ℕ))) (object : Ref) (left : List ℕ) (all : List (List ℕ)) : Type 0 where
+  pub is : told ≡ Some all
+  pub apart : AreApart all object left
+
+-- and its maps are right: its pages are in these blocks
+pub record StandsWhole (told : Option (List (List ℕ))) (object : Ref) (left : List ℕ) (all : List (List ℕ)) (xs : List ℕ) : Type 0 where
+  pub is : told ≡ Some all
+  pub apart : AreApart all object left
+  pub pages : addresses_of all object ≡ Ok xs
+
+-- the maps that an edit reads are right: the topmost one, and the leaves that it touches
+pub record ReadsRight (object : Ref) (changed : List (ℕ × ℕ)) (added : List ℕ) (all : List (List ℕ)) : Type 0 where
+  pub ls : List ℕ
+  pub top : leaves_of all object ≡ Ok ls
+  pub leaves : (k : ℕ) → k < length ls → is_touched object.pages changed added k ≡ true
+      → IsOk (map_at all 1 (used_in object.pages k) (slice_index ls k))
+
+-- a leaf that an edit touches isn't right as the device is after it, since nothing is written after the leaf was read
+pub record IsBadLeaf (object : Ref) (changed : List (ℕ × ℕ)) (added : List ℕ) (block : ℕ) (all now : List (List ℕ)) : Type 0 where
+  pub ls : List ℕ
+  pub top : leaves_of all object ≡ Ok ls
+  pub k : ℕ
+  pub within : k < length ls
+  pub touched : is_touched object.pages changed added k ≡ true
+  pub bad : map_at now 1 (used_in object.pages k) (slice_index ls k) ≡ Err block
+
+-- a block that an edit reads isn't right: the topmost map, or a leaf
+abbrev pub IsBadMap : Ref → List (ℕ × ℕ) → List ℕ → ℕ → List (List ℕ) → List (List ℕ) → Type 0
+IsBadMap object changed added block all now =
+    (leaves_of all object ≡ Err block) ⊎ IsBadLeaf object changed added block all now
+
+-- the same where the device tells its blocks
+abbrev pub TellsBadMap : Option (List (List ℕ)) → Option (List (List ℕ)) → Ref → List (ℕ × ℕ) → List ℕ → ℕ → Type 0
+TellsBadMap told told_now object changed added block =
+    (all now : List (List ℕ)) → told ≡ Some all → told_now ≡ Some now → IsBadMap object changed added block all now
+
+-- a leaf, which is right where the object has it, names other pages after an edit than before
+abbrev pub ChangesLeaf : Ref → List (ℕ × ℕ) → List ℕ → List (List ℕ) → List ℕ → ℕ → Type 0
+ChangesLeaf object changed added all ls k =
+    (xs : List ℕ) → length xs ≡ object.pages → (k < length ls → map_at all 1 (used_in object.pages k) (slice_index ls k) ≡ Ok (piece k xs))
+    → piece k (edited xs changed added) ≢ piece k xs
+
+-- an edit is at a leaf whose pages become other ones, or behind all leaves at the map above them, and what it read is right
+pub record NeedsMap (object : Ref) (changed : List (ℕ × ℕ)) (added : List ℕ) (all : List (List ℕ)) : Type 0 where
+  pub ls : List ℕ
+  pub top : leaves_of all object ≡ Ok ls
+  pub k : ℕ
+  pub read : (j : ℕ) → j < length ls → j ≤ k → is_touched object.pages changed added j ≡ true
+      → IsOk (map_at all 1 (used_in object.pages j) (slice_index ls j))
+  pub needs : ChangesLeaf object changed added all ls k ⊎ ((leaf_count object.pages ≤ k) × (252 < object.pages + length added))
+
+-- too few blocks are left: none now, fewer were than any such edit may take, one is needed, and where all maps are right fewer were left than maps are needed
+pub record LacksMaps (told : Option (List (List ℕ))) (object : Ref) (changed : List (ℕ × ℕ)) (added before after : List ℕ) : Type 0 where
+  pub none : after ≡ []
+  pub room : length before ≤ leaf_count (object.pages + length added)
+  pub needs : (all : List (List ℕ)) → StandsApart told object before all → NeedsMap object changed added all
+  pub fewer : (all : List (List ℕ)) (xs : List ℕ) → StandsWhole told object before all xs
+      → length before < maps_needed xs (edited xs changed added)
+
+-- an object reaches blocks, each of which the old one reached, is one of its pages, or was taken
+pub record ReachesAmong (all now : List (List ℕ)) (old new : Ref) (pages taken : List ℕ) : Type 0 where
+  pub blocks : List ℕ
+  pub is : blocks_of now new ≡ Ok blocks
+  pub among : (reached : List ℕ) → blocks_of all old ≡ Ok reached → All (λ b. holds (reached ++ (pages ++ taken)) b ≡ true) blocks
+
 -- an object with some pages became one with others
 pub record HasRemapped (all now : List (List ℕ)) (old new : Ref) (xs ys before after : List ℕ) : Type 0 where
   pub size : new.pages ≡ length ys
   pub addresses : addresses_of now new ≡ Ok ys
   pub count : length before ≡ maps_needed xs ys + length after
   pub maps : (ls ms : List ℕ) → leaves_of all old ≡ Ok ls → leaves_of now new ≡ Ok ms → SharesMaps old new xs ys before after ls ms
+  pub reach : ReachesAmong all now old new ys (taken_of before after)
+  pub apart : All (λ b. holds after b ≡ false) ys → AreApart now new after
 
--- a block was taken for a page, and the object became one that has it, by the blocks that were left then
-pub record PutsPage (with : ℕ → List ℕ) (all now : List (List ℕ)) (old new : Ref) (xs before after : List ℕ) : Type 0 where
-  pub at : ℕ
-  pub left : List ℕ
-  pub first : before ≡ at ∷ left
-  pub remapped : HasRemapped all now old new xs (with at) left after
-
--- fewer blocks are left than a page and the maps over it take: the first would be the page's
-abbrev pub LacksPage : List ℕ → List ℕ → (ℕ → List ℕ) → Type 0
-LacksPage left xs with = length left < 1 + maps_needed xs (with (slice_index left 0))
-
--- it holds of the blocks of a device, where that tells them
-abbrev pub IsNowIn : (List (List ℕ) → Type 0) → Option (List (List ℕ)) → Type 0
-IsNowIn Holds told = (now : List (List ℕ)) → told ≡ Some now → Holds now
-
--- the block of a map of the object that isn't right
-pub record IsBadMap (object : Ref) (block : ℕ) (all : List (List ℕ)) : Type 0 where
-  pub ls : List ℕ
-  pub k : ℕ
-  pub leaves : leaves_of all object ≡ Ok ls
-  pub within : k < length ls
-  pub bad : map_at all 1 (used_in object.pages k) (slice_index ls k) ≡ Err block
+-- an object was edited: the maps that were read are right, and where all are, it became one with the edited pages
+pub record HasEdited (told told_now : Option (List (List ℕ))) (object : Ref) (changed : List (ℕ × ℕ)) (added before after : List ℕ) (new : Ref) : Type 0 where
+  pub read : 1 ≤ length changed + length added → (all : List (List ℕ)) → StandsApart told object before all
+      → ReadsRight object changed added all
+  pub remapped : (all now : List (List ℕ)) (xs : List ℕ) → StandsWhole told object before all xs → told_now ≡ Some now
+      → HasRemapped all now object new xs (edited xs changed added) before after

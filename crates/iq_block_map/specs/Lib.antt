@@ -6,4 +6,5 @@ pub mod Takers
 pub mod Writing
 pub mod Editing
 pub mod Leaves
+pub mod Paging
 pub mod Laws

@@ -3,9 +3,9 @@
 use Rattle.std.specs.Prelude.{◌≡◌, ℕ, ◌+◌, ◌-◌, ◌*◌, ◌/◌, ◌%◌, min, Bool, true, false, ◌&&◌, List, [], ◌∷◌, ◌++◌, length, take, map, nat_eq, nat_lt, nat_le, if◌then◌else◌, slice_index, Result, Ok, Err, Option, Some, None}
 use Rattle.std.specs.List.{list_all}
 use Rattle.iq_outside.specs.Devices.{block_of}
-use Rattle.iq_block_store.specs.Frames.{has_header, payload_of}
+use Rattle.iq_block_store.specs.Frames.{page_kind, has_header, payload_of}
 use Rattle.iq_base.specs.declared.refs.Ref.{Ref}
-use Rattle.iq_block_map.specs.Maps.{page_kind, places, is_map}
+use Rattle.iq_block_map.specs.Maps.{places, is_map}
 
 -- how many leaves so many pages take
 abbrev pub leaf_count : ℕ → ℕ
@@ -62,6 +62,10 @@ addresses_of = walked false
 -- the blocks that an object reaches
 abbrev pub blocks_of : List (List ℕ) → Ref → Result (List ℕ) ℕ
 blocks_of = walked true
+
+-- the maps of an object, the topmost one before its leaves, or the topmost one where that isn't right
+abbrev pub maps_of : List (List ℕ) → Ref → Result (List ℕ) ℕ
+maps_of all object = joined (Ok (top_of true object)) (leaves_of all object)
 
 abbrev pub at_place : ℕ → Result (List ℕ) ℕ → Result ℕ ℕ
 at_place i (Err b) = Err b

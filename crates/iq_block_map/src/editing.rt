@@ -1,20 +1,21 @@
 //! Writing an object anew, by maps that it shares with the old one where their pages are the same.
-ghost use Rattle.std.specs.Prelude.{◌≡◌, ◌≢◌, ◌⊎◌, ◌≤◌, ◌<◌, ◌*◌, ◌+◌, ◌-◌, ◌++◌, ℕ, List, [], Some, Ok, Err, length, take, IfOk, IfErr, IsTrue, IsFalse};
-ghost use Rattle.iq_block_map.specs.Refs.{IsIn, MayBe};
-ghost use Rattle.iq_block_map.specs.Objects.{leaf_count, used_in, leaves_of, addresses_of};
+ghost use Rattle.std.specs.Prelude.{◌≡◌, ◌≢◌, ◌≤◌, ◌<◌, ◌*◌, ◌+◌, ◌-◌, ◌++◌, ℕ, List, [], Some, Ok, Err, length, slice_index, take, IfOk, IfErr, OnOk, IsTrue, IsFalse};
+ghost use Rattle.iq_block_map.specs.Refs.{IsIn, WhereTold, IsPlace, HasPlaces};
+ghost use Rattle.iq_block_map.specs.Objects.{leaf_count, used_in};
 ghost use Rattle.iq_block_map.specs.Takers.{AreSpare};
 ghost use Rattle.iq_block_map.specs.Writing.{HasPut};
-ghost use Rattle.iq_block_map.specs.Editing.{replaced_from, edited, AreChanges, AreBlocks, AreApart, new_blocks, maps_needed, HasRemapped, IsNowIn, IsBadMap};
-ghost use Rattle.iq_block_map.specs.Leaves.{below, padded, leaf_at, EndsLeaf, IsOpened, AreOpened, IsBadLeaf, HasLeaves, LacksLeaf, EndsTop};
+ghost use Rattle.iq_block_map.specs.Editing.{replaced_from, AreChanges, AreBlocks, new_blocks, HasEdited, TellsBadMap, LacksMaps};
+ghost use Rattle.iq_block_map.specs.Leaves.{below, padded, leaf_at, RewritesLeaf, RewritesLeaves, ReadsTouched, ReadsOne, IsBadPlace, IsBadOne, IsWrongLeaf, LacksOne, LacksLeaves, MakesTop, LacksTop};
 ghost use Rattle.iq_block_map.specs.Causes.{IsEditFault, IsReadFault, IsPutFault};
 ghost use Rattle.iq_block_store.specs.Looks.{HasLooked};
 ghost use Rattle.std.specs.List.{prefix_len};
 
-use crate::maps::{MAP, Places, ROOM, payload_of};
-use crate::reading::{count_of, leaf_count, leaves_of, read_map, used_in};
+use crate::map_bytes::{Places, ROOM, payload_of};
+use crate::reading::{leaf_count, leaves_of, read_map, used_in};
 use crate::writing::put;
 use crate::{MapFault, Taker};
 use iq_base::Ref;
+use iq_block_store::{MAP, count_of};
 use iq_outside::Device;
 
 /// A leaf of an object: its block, its first page, and how many pages it names.
@@ -42,17 +43,20 @@ pub fn remap<D: Device, T: Taker>(
     requires added { AreBlocks (D.blocks disk.old) added.now }
     requires spare { AreSpare (D.blocks disk.old) (T.left space.old) }
     ensures put { HasPut D.Device (T.left space.old) (T.left space.new) disk.old disk.new }
-    ensures ok { IfOk result (λ new. (all : List (List ℕ)) (xs : List ℕ) → D.blocks disk.old ≡ Some all
-        → AreApart all old (T.left space.old) → addresses_of all old ≡ Ok xs
-        → IsNowIn (λ now. HasRemapped all now old new xs (edited xs changed.now added.now) (T.left space.old) (T.left space.new)) (D.blocks disk.new)) }
+    ensures spare { AreSpare (D.blocks disk.new) (T.left space.new) }
+    ensures most { length (T.left space.old)
+        ≤ length (T.left space.new) + (leaf_count (old.pages + length added.now) + 1) }
+    ensures ok { IfOk result (HasEdited (D.blocks disk.old) (D.blocks disk.new)
+        old changed.now added.now (T.left space.old) (T.left space.new)) }
+    ensures is_in { IfOk result (IsIn (D.blocks disk.new)) }
     ensures pages { IfOk result (λ new. new.pages ≡ old.pages + length added.now) }
     ensures cause { IfErr result (λ e. IsEditFault
-        (λ b all. AreApart all old (T.left space.old) → (leaves_of all old ≡ Err b) ⊎ IsBadMap old b all)
-        ((all : List (List ℕ)) (xs : List ℕ) → D.blocks disk.old ≡ Some all → AreApart all old (T.left space.old) → addresses_of all old ≡ Ok xs
-        → length (T.left space.old) < maps_needed xs (edited xs changed.now added.now))
-        e (D.blocks disk.old) (D.faults disk.old) (D.faults disk.new)) }
+        (TellsBadMap (D.blocks disk.old) (D.blocks disk.new) old changed.now added.now)
+        (LacksMaps (D.blocks disk.old)
+        old changed.now added.now (T.left space.old) (T.left space.new))
+        e (D.faults disk.old) (D.faults disk.new)) }
 {
-    if changed.is_empty() && added.is_empty() {
+    if is_untouched(changed, added) {
         return Ok(old);
     }
     rebuild(disk, space, old, changed, added)
@@ -74,15 +78,18 @@ fn rebuild<D: Device, T: Taker>(
     requires added { AreBlocks (D.blocks disk.old) added.now }
     requires spare { AreSpare (D.blocks disk.old) (T.left space.old) }
     ensures put { HasPut D.Device (T.left space.old) (T.left space.new) disk.old disk.new }
-    ensures ok { IfOk result (λ new. (all : List (List ℕ)) (xs : List ℕ) → D.blocks disk.old ≡ Some all
-        → AreApart all old (T.left space.old) → addresses_of all old ≡ Ok xs
-        → IsNowIn (λ now. HasRemapped all now old new xs (edited xs changed.now added.now) (T.left space.old) (T.left space.new)) (D.blocks disk.new)) }
+    ensures spare { AreSpare (D.blocks disk.new) (T.left space.new) }
+    ensures most { length (T.left space.old)
+        ≤ length (T.left space.new) + (leaf_count (old.pages + length added.now) + 1) }
+    ensures ok { IfOk result (HasEdited (D.blocks disk.old) (D.blocks disk.new)
+        old changed.now added.now (T.left space.old) (T.left space.new)) }
+    ensures is_in { IfOk result (IsIn (D.blocks disk.new)) }
     ensures pages { IfOk result (λ new. new.pages ≡ old.pages + length added.now) }
     ensures cause { IfErr result (λ e. IsEditFault
-        (λ b all. AreApart all old (T.left space.old) → (leaves_of all old ≡ Err b) ⊎ IsBadMap old b all)
-        ((all : List (List ℕ)) (xs : List ℕ) → D.blocks disk.old ≡ Some all → AreApart all old (T.left space.old) → addresses_of all old ≡ Ok xs
-        → length (T.left space.old) < maps_needed xs (edited xs changed.now added.now))
-        e (D.blocks disk.old) (D.faults disk.old) (D.faults disk.new)) }
+        (TellsBadMap (D.blocks disk.old) (D.blocks disk.new) old changed.now added.now)
+        (LacksMaps (D.blocks disk.old)
+        old changed.now added.now (T.left space.old) (T.left space.new))
+        e (D.faults disk.old) (D.faults disk.new)) }
 {
     let count = count_of(disk)?;
     let before = leaves_of(disk, count, old)?;
@@ -101,12 +108,17 @@ fn top<D: Device, T: Taker>(
     leaves: &Places,
     pages: u32,
 ) -> Result<u32, MapFault>
+    requires object { IsIn (D.blocks disk.old) old }
+    requires first { 1 ≤ pages → IsPlace (D.blocks disk.old) (slice_index leaves.now 0) }
     requires spare { AreSpare (D.blocks disk.old) (T.left space.old) }
     ensures put { HasPut D.Device (T.left space.old) (T.left space.new) disk.old disk.new }
-    ensures ok { IfOk result (λ root. (all : List (List ℕ)) → D.blocks disk.old ≡ Some all
-        → IsNowIn (λ now. EndsTop all now old before.now leaves.now pages root (T.left space.old) (T.left space.new)) (D.blocks disk.new)) }
+    ensures spare { AreSpare (D.blocks disk.new) (T.left space.new) }
+    ensures most { length (T.left space.old) ≤ length (T.left space.new) + 1 }
+    ensures is_in { IfOk result (λ root. 1 ≤ pages → IsPlace (D.blocks disk.new) root) }
+    ensures ok { IfOk result (MakesTop (D.blocks disk.old) (D.blocks disk.new)
+        old before.now leaves.now pages (T.left space.old) (T.left space.new)) }
     ensures cause { IfErr result (λ e. IsPutFault
-        ((T.left space.old ≡ []) × (252 < pages) × (252 < old.pages → leaves.now ≢ before.now))
+        (LacksTop old pages before.now leaves.now (T.left space.old) (T.left space.new))
         e (D.faults disk.old) (D.faults disk.new)) }
 {
     if pages <= 252 {
@@ -136,21 +148,28 @@ fn rewrite_leaves<D: Device, T: Taker>(
     changed: &[(u32, u32)],
     added: &[u32],
 ) -> Result<Places, MapFault>
-    requires count { (all : List (List ℕ)) → D.blocks disk.old ≡ Some all → count ≡ length all }
-    requires before { (all : List (List ℕ)) → D.blocks disk.old ≡ Some all → MayBe (length all) (leaf_count old.pages) before.now }
+    requires count { WhereTold (D.blocks disk.old) (λ all. count ≡ length all) }
+    requires before { HasPlaces (D.blocks disk.old) (leaf_count old.pages) before.now }
     requires changes { AreChanges 0 old.pages changed.now }
     requires most { old.pages + length added.now ≤ 63504 }
     requires changed { AreBlocks (D.blocks disk.old) (new_blocks changed.now) }
     requires added { AreBlocks (D.blocks disk.old) added.now }
     requires spare { AreSpare (D.blocks disk.old) (T.left space.old) }
     ensures put { HasPut D.Device (T.left space.old) (T.left space.new) disk.old disk.new }
-    ensures ok { IfOk result (λ leaves. (all : List (List ℕ)) (xs : List ℕ) → D.blocks disk.old ≡ Some all
-        → IsOpened all old before.now xs (T.left space.old)
-        → IsNowIn (λ now. HasLeaves all now before.now leaves xs (edited xs changed.now added.now) (T.left space.old) (T.left space.new)) (D.blocks disk.new)) }
-    ensures cause { IfErr result (λ e. IsEditFault (λ b all. AreOpened all old before.now (T.left space.old) → IsBadLeaf old before.now b all)
-        ((all : List (List ℕ)) (xs : List ℕ) → D.blocks disk.old ≡ Some all → IsOpened all old before.now xs (T.left space.old)
-        → LacksLeaf (T.left space.old) xs (edited xs changed.now added.now))
-        e (D.blocks disk.old) (D.faults disk.old) (D.faults disk.new)) }
+    ensures spare { AreSpare (D.blocks disk.new) (T.left space.new) }
+    ensures most { length (T.left space.old)
+        ≤ length (T.left space.new) + leaf_count (old.pages + length added.now) }
+    ensures ok { IfOk result (RewritesLeaves (D.blocks disk.old) (D.blocks disk.new)
+        old changed.now added.now (T.left space.old) (T.left space.new) before.now) }
+    ensures first { IfOk result (λ leaves. 1 ≤ old.pages + length added.now
+        → IsPlace (D.blocks disk.new) (slice_index leaves 0)) }
+    ensures read { OnOk result (ReadsTouched (D.blocks disk.old)
+        old before.now changed.now added.now (T.left space.old)) }
+    ensures cause { IfErr result (λ e. IsEditFault
+        (λ b. WhereTold (D.blocks disk.new) (IsBadPlace old before.now changed.now added.now b))
+        (LacksLeaves (D.blocks disk.old)
+        old before.now changed.now added.now (T.left space.old) (T.left space.new))
+        e (D.faults disk.old) (D.faults disk.new)) }
 {
     let mut leaves = *before;
     let mut to_change = changed;
@@ -186,43 +205,65 @@ fn rewrite_leaf<D: Device, T: Taker>(
     here: &[(u32, u32)],
     more: &[u32],
 ) -> Result<u32, MapFault>
-    requires count { (all : List (List ℕ)) → D.blocks disk.old ≡ Some all → count ≡ length all }
-    requires leaf { (all : List (List ℕ)) → D.blocks disk.old ≡ Some all → 1 ≤ leaf.used → leaf.at < length all }
+    requires count { WhereTold (D.blocks disk.old) (λ all. count ≡ length all) }
+    requires leaf { 1 ≤ leaf.used → IsPlace (D.blocks disk.old) leaf.at }
     requires room { leaf.used + length more.now ≤ 252 }
     requires here { AreChanges leaf.first (leaf.first + leaf.used) here.now }
     requires more { AreBlocks (D.blocks disk.old) more.now }
     requires spare { AreSpare (D.blocks disk.old) (T.left space.old) }
     ensures put { HasPut D.Device (T.left space.old) (T.left space.new) disk.old disk.new }
-    ensures ok { IfOk result (λ made. (all : List (List ℕ)) (xs : List ℕ) → D.blocks disk.old ≡ Some all
-        → leaf_at all leaf.used leaf.at ≡ Ok xs
-        → IsNowIn (λ now. EndsLeaf all now leaf.at made xs (replaced_from leaf.first xs here.now ++ more.now) (T.left space.old) (T.left space.new)) (D.blocks disk.new)) }
-    ensures cause { IfErr result (λ e. IsEditFault (λ b all. (b ≡ leaf.at) × (leaf_at all leaf.used leaf.at ≡ Err leaf.at))
-        ((T.left space.old ≡ []) × ((all : List (List ℕ)) (xs : List ℕ) → D.blocks disk.old ≡ Some all → leaf_at all leaf.used leaf.at ≡ Ok xs
-        → (replaced_from leaf.first xs here.now ++ more.now) ≢ xs))
-        e (D.blocks disk.old) (D.faults disk.old) (D.faults disk.new)) }
+    ensures spare { AreSpare (D.blocks disk.new) (T.left space.new) }
+    ensures most { length (T.left space.old) ≤ length (T.left space.new) + 1 }
+    ensures ok { IfOk result (RewritesLeaf (D.blocks disk.old) (D.blocks disk.new)
+        leaf.used leaf.at leaf.first here.now more.now (T.left space.old) (T.left space.new)) }
+    ensures is_in { IfOk result (λ made. 1 ≤ leaf.used + length more.now
+        → IsPlace (D.blocks disk.new) made) }
+    ensures read { OnOk result
+        (ReadsOne (D.blocks disk.old) leaf.used leaf.at here.now more.now) }
+    ensures cause { IfErr result (λ e. IsEditFault
+        (λ b. WhereTold (D.blocks disk.new) (IsBadOne leaf.used leaf.at here.now more.now b))
+        (LacksOne (D.blocks disk.old) leaf.used leaf.at leaf.first here.now more.now
+        (T.left space.old) (T.left space.new))
+        e (D.faults disk.old) (D.faults disk.new)) }
 {
-    if here.is_empty() && more.is_empty() {
+    if is_untouched(here, more) {
         return Ok(leaf.at);
     }
     let before = read_leaf(disk, count, leaf)?;
     let places = edit(&before, leaf, here, more);
-    if places == before {
+    if keeps_pages(leaf.used, &before, &places) {
         return Ok(leaf.at);
     }
     put(disk, space, MAP, 1, &payload_of(&places))
 }
 
+/// Whether there are no changes and no pages more.
+fn is_untouched(here: &[(u32, u32)], more: &[u32]) -> bool
+    ensures yes { IsTrue result → length here.now + length more.now ≡ 0 }
+    ensures no { IsFalse result → 1 ≤ length here.now + length more.now }
+{
+    here.is_empty() && more.is_empty()
+}
+
+/// Whether a leaf of so many pages keeps them.
+fn keeps_pages(used: usize, before: &Places, places: &Places) -> bool
+    ensures yes { IsTrue result → (1 ≤ used) × (places.now ≡ before.now) }
+    ensures no { IsFalse result → 1 ≤ used → places.now ≢ before.now }
+{
+    used > 0 && places == before
+}
+
 /// The numbers of a leaf. One of no pages has zeros.
 #[tactic(auto, using(crate::proofs::LeafLemmas::padded_of))]
 fn read_leaf<D: Device>(disk: &mut D, count: u32, leaf: Leaf) -> Result<Places, MapFault>
-    requires count { (all : List (List ℕ)) → D.blocks disk.old ≡ Some all → count ≡ length all }
-    requires leaf { (all : List (List ℕ)) → D.blocks disk.old ≡ Some all → 1 ≤ leaf.used → leaf.at < length all }
+    requires count { WhereTold (D.blocks disk.old) (λ all. count ≡ length all) }
+    requires leaf { WhereTold (D.blocks disk.old) (λ all. 1 ≤ leaf.used → leaf.at < length all) }
     requires used { leaf.used ≤ 252 }
     ensures looked { HasLooked D.Device disk.old disk.new }
-    ensures ok { IfOk result (λ ps. (all : List (List ℕ)) → D.blocks disk.old ≡ Some all
-        → leaf_at all leaf.used leaf.at ≡ Ok (take leaf.used ps)) }
+    ensures ok { IfOk result (λ ps. WhereTold (D.blocks disk.old)
+        (λ all. leaf_at all leaf.used leaf.at ≡ Ok (take leaf.used ps))) }
     ensures padded { IfOk result (λ ps. ps ≡ padded (take leaf.used ps)) }
-    ensures cause { IfErr result (λ e. IsReadFault (λ b all. (b ≡ leaf.at) × (leaf_at all leaf.used leaf.at ≡ Err leaf.at))
+    ensures cause { IfErr result (λ e. IsReadFault (IsWrongLeaf leaf.used leaf.at)
         e (D.blocks disk.old) (D.faults disk.old) (D.faults disk.new)) }
 {
     if leaf.used == 0 {

@@ -1,4 +1,5 @@
 //! Why an object of pages wasn't read or written.
+use iq_block_store::StoreFault;
 use std::alloc::{AllocError, AllocFailed};
 use std::error::Error;
 use std::fmt;
@@ -33,6 +34,20 @@ impl fmt::Display for MapFault {
 }
 
 impl Error for MapFault {}
+
+impl From<StoreFault> for MapFault {
+    ghost use Rattle.std.specs.Prelude.{◌≡◌};
+    ghost use Rattle.iq_block_map.specs.declared.faults.MapFault.TheVariants as faults;
+
+    ghost from_gives = { λ s e. e ≡ faults.StoreFault s.before s.after };
+
+    fn from(fault: StoreFault) -> MapFault {
+        MapFault::StoreFault {
+            before: fault.before,
+            after: fault.after,
+        }
+    }
+}
 
 impl From<AllocError> for MapFault {
     ghost use Rattle.std.specs.Prelude.{◌≡◌};

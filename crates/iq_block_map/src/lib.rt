@@ -8,20 +8,22 @@
 mod editing;
 mod faults;
 mod laws;
-mod maps;
+mod map_bytes;
 mod pages;
 mod reading;
 mod taker;
-#[cfg(test)]
-mod tests;
 mod writing;
 
 pub use editing::remap;
 pub use faults::MapFault;
 pub use laws::{
-    a_page_is_where_the_list_says, an_object_stands_on_what_it_reaches,
-    what_is_not_reached_is_apart,
+    a_page_is_where_the_list_says, an_object_reaches_its_maps_and_pages,
+    an_object_stands_on_what_it_reaches, objects_are_behind_the_roots,
+    pages_change_with_their_blocks, pages_stand_on_their_blocks,
+    what_is_fresh_replaces_what_is_lost, what_is_not_reached_is_apart,
 };
+pub use map_bytes::RawMap;
 pub use pages::{push, with_page};
-pub use reading::{addresses, blocks, page};
+pub use reading::{addresses, blocks, maps, most_maps, page, read_page, read_raw_map};
 pub use taker::Taker;
+pub use writing::put_page;

@@ -1,18 +1,17 @@
 //! Reading objects.
-ghost use Rattle.std.specs.Prelude.{◌≡◌, ◌≤◌, ◌<◌, ◌^◌, ◌*◌, ◌+◌, ◌-◌, ◌++◌, ℕ, true, false, List, Some, Ok, Err, length, take, IfOk, IfErr, OnOk};
-ghost use Rattle.iq_outside.specs.Devices.{block_of};
-ghost use Rattle.iq_block_store.specs.Frames.{has_header};
+ghost use Rattle.std.specs.Prelude.{◌≡◌, ◌≤◌, ◌<◌, ◌^◌, ◌*◌, ◌+◌, ◌-◌, ◌++◌, ℕ, true, false, List, Some, Ok, Err, length, slice_index, take, IfOk, IfErr, OnOk};
 ghost use Rattle.iq_block_store.specs.Looks.{HasLooked};
-ghost use Rattle.iq_block_map.specs.Maps.{page_kind, places, is_map, is_address};
-ghost use Rattle.iq_block_map.specs.Objects.{leaf_count, used_in, map_at, leaves_of, addresses_of, blocks_of, walked, front, IsPageAt, HoldsPage};
-ghost use Rattle.iq_block_map.specs.Causes.{IsStoreFault, IsReadFault, IsWalkFault, IsBadOnWay};
+ghost use Rattle.iq_block_map.specs.Maps.{IsRawMap, is_address};
+ghost use Rattle.iq_block_map.specs.Objects.{leaf_count, used_in, map_at, leaves_of, maps_of, addresses_of, blocks_of, walked, front, IsPageAt, HoldsPage};
+ghost use Rattle.iq_block_map.specs.Causes.{IsRawFault, IsReadFault, IsWalkFault, IsWrongMap, IsNoPage, IsBadOnWay};
 ghost use Rattle.iq_block_map.specs.declared.faults.MapFault.TheVariants.{NoMemory};
-ghost use Rattle.iq_block_map.specs.Refs.{IsIn, MayBe};
+ghost use Rattle.iq_block_map.specs.Editing.{maps_needed};
+ghost use Rattle.iq_block_map.specs.Refs.{IsIn, WhereTold, MayBe, HasPlaces};
 
 use crate::MapFault;
-use crate::maps::{MAP, PAGE, Places, ROOM, is_map, places_of};
+use crate::map_bytes::{Places, ROOM, RawMap, is_right_map, raw_map_of};
 use iq_base::Ref;
-use iq_block_store::{BlockFault, Page, read};
+use iq_block_store::{BlockFault, MAP, PAGE, Page, count_of, read};
 use iq_outside::Device;
 use std::alloc::Global;
 
@@ -24,6 +23,15 @@ pub fn leaf_count(pages: u32) -> u32
     (pages + 251) / 252
 }
 
+/// The most maps that an object of so many pages has, and so the most blocks that a `remap` takes for one.
+pub fn most_maps(pages: u32) -> u32
+    requires { pages ≤ 63504 }
+    ensures most { result ≡ leaf_count pages + 1 }
+    ensures enough { (xs ys : List ℕ) → length ys ≡ pages → maps_needed xs ys ≤ result }
+{
+    leaf_count(pages) + 1
+}
+
 /// How many pages a leaf names, of so many.
 pub fn used_in(pages: u32, k: u32) -> usize
     requires { k ≤ 252 }
@@ -31,23 +39,6 @@ pub fn used_in(pages: u32, k: u32) -> usize
 {
     let used = pages.saturating_sub(252 * k).min(252);
     used as usize
-}
-
-/// How many blocks the device has.
-pub fn count_of<D: Device>(disk: &mut D) -> Result<u32, MapFault>
-    ensures looked { HasLooked D.Device disk.old disk.new }
-    ensures count { IfOk result (λ n. (all : List (List ℕ)) → D.blocks disk.old ≡ Some all → n ≡ length all) }
-    ensures fits { IfOk result (λ n. n < 2 ^ 32) }
-    ensures cause { IfErr result (λ e. IsStoreFault e (D.faults disk.old) (D.faults disk.new)) }
-{
-    let before = disk.faults();
-    match disk.count() {
-        Ok(count) => Ok(count),
-        Err(_) => {
-            let after = disk.faults();
-            Err(MapFault::StoreFault { before, after })
-        }
-    }
 }
 
 /// Reads a map of a level with so many numbers in use.
@@ -59,18 +50,18 @@ pub fn read_map<D: Device>(
     at: u32,
 ) -> Result<Places, MapFault>
     requires used { used ≤ 252 }
-    requires told { (all : List (List ℕ)) → D.blocks disk.old ≡ Some all → (count ≡ length all) × (at < length all) }
+    requires told { WhereTold (D.blocks disk.old)
+        (λ all. (count ≡ length all) × (at < length all)) }
     ensures looked { HasLooked D.Device disk.old disk.new }
-    ensures ok { IfOk result (λ ps. (all : List (List ℕ)) → D.blocks disk.old ≡ Some all
-        → map_at all level used at ≡ Ok (take used ps)) }
+    ensures ok { IfOk result (λ ps. WhereTold (D.blocks disk.old)
+        (λ all. map_at all level used at ≡ Ok (take used ps))) }
     ensures places { IfOk result (λ ps. MayBe count used ps) }
-    ensures cause { IfErr result (λ e. IsReadFault (λ b all. (b ≡ at) × (map_at all level used at ≡ Err at))
+    ensures cause { IfErr result (λ e. IsReadFault (IsWrongMap level used at)
         e (D.blocks disk.old) (D.faults disk.old) (D.faults disk.new)) }
 {
-    let mut block = [0; 1024];
-    match read(disk, at, MAP, &mut block) {
-        Ok(()) if is_map(count, level, used, at, &block) => Ok(places_of(&block)),
-        Ok(()) | Err(BlockFault::BadHeader { .. }) => Err(MapFault::BadMap { block: at }),
+    match read_raw_map(disk, at) {
+        Ok(raw) if is_right_map(count, level, used, &raw) => Ok(raw.numbers),
+        Ok(_) | Err(BlockFault::BadHeader { .. }) => Err(MapFault::BadMap { block: at }),
         Err(BlockFault::StoreFault { before, after }) => Err(MapFault::StoreFault {
             before,
             after,
@@ -78,15 +69,29 @@ pub fn read_map<D: Device>(
     }
 }
 
+/// Reads the level and the numbers of a map, and tests none of them: for one who tells apart what may be wrong with a map. It reads
+/// one block, and takes no memory. `BadHeader` comes where the block isn't a map of its place.
+pub fn read_raw_map<D: Device>(disk: &mut D, at: u32) -> Result<RawMap, BlockFault>
+    requires { WhereTold (D.blocks disk.old) (λ all. at < length all) }
+    ensures looked { HasLooked D.Device disk.old disk.new }
+    ensures ok { IfOk result (λ raw. WhereTold (D.blocks disk.old)
+        (λ all. IsRawMap raw at all)) }
+    ensures cause { IfErr result (λ e. IsRawFault e at
+        (D.blocks disk.old) (D.faults disk.old) (D.faults disk.new)) }
+{
+    let mut block = [0; 1024];
+    read(disk, at, MAP, &mut block)?;
+    Ok(raw_map_of(&block))
+}
+
 /// The leaves of an object. The numbers behind them are zero.
 pub fn leaves_of<D: Device>(disk: &mut D, count: u32, object: Ref) -> Result<Places, MapFault>
     requires object { IsIn (D.blocks disk.old) object }
-    requires count { (all : List (List ℕ)) → D.blocks disk.old ≡ Some all → count ≡ length all }
+    requires count { WhereTold (D.blocks disk.old) (λ all. count ≡ length all) }
     ensures looked { HasLooked D.Device disk.old disk.new }
-    ensures ok { IfOk result (λ ps. (all : List (List ℕ)) → D.blocks disk.old ≡ Some all
-        → leaves_of all object ≡ Ok (take (leaf_count object.pages) ps)) }
-    ensures places { IfOk result (λ ps. (all : List (List ℕ)) → D.blocks disk.old ≡ Some all
-        → MayBe (length all) (leaf_count object.pages) ps) }
+    ensures ok { IfOk result (λ ps. WhereTold (D.blocks disk.old)
+        (λ all. leaves_of all object ≡ Ok (take (leaf_count object.pages) ps))) }
+    ensures places { IfOk result (HasPlaces (D.blocks disk.old) (leaf_count object.pages)) }
     ensures cause { IfErr result (λ e. IsReadFault (λ b all. leaves_of all object ≡ Err b)
         e (D.blocks disk.old) (D.faults disk.old) (D.faults disk.new)) }
 {
@@ -105,8 +110,11 @@ pub fn leaves_of<D: Device>(disk: &mut D, count: u32, object: Ref) -> Result<Pla
 /// The leaf of an object of at most 252 pages.
 fn only_leaf(object: Ref) -> Places
     requires { object.pages ≤ 252 }
-    ensures places { (count : ℕ) → (1 ≤ object.pages → is_address count object.root ≡ true) → MayBe count (leaf_count object.pages) result }
-    ensures leaves { (all : List (List ℕ)) → leaves_of all object ≡ Ok (take (leaf_count object.pages) result) }
+    ensures root { 1 ≤ object.pages → slice_index result 0 ≡ object.root }
+    ensures places { (count : ℕ) → (1 ≤ object.pages → is_address count object.root ≡ true)
+        → MayBe count (leaf_count object.pages) result }
+    ensures leaves { (all : List (List ℕ))
+        → leaves_of all object ≡ Ok (take (leaf_count object.pages) result) }
 {
     let mut leaves = [0; ROOM];
     if object.pages > 0 {
@@ -120,7 +128,8 @@ pub fn page<D: Device>(disk: &mut D, object: Ref, n: u32, into: &mut Page) -> Re
     requires object { IsIn (D.blocks disk.old) object }
     requires page { n < object.pages }
     ensures looked { HasLooked D.Device disk.old disk.new }
-    ensures ok { IfOk result (λ at. (all : List (List ℕ)) → D.blocks disk.old ≡ Some all → IsPageAt object n at into.new all) }
+    ensures ok { IfOk result (λ at. WhereTold (D.blocks disk.old)
+        (λ all. IsPageAt object n at into.new all)) }
     ensures cause { IfErr result (λ e. IsReadFault (IsBadOnWay object n)
         e (D.blocks disk.old) (D.faults disk.old) (D.faults disk.new)) }
 {
@@ -133,12 +142,13 @@ pub fn page<D: Device>(disk: &mut D, object: Ref, n: u32, into: &mut Page) -> Re
     Ok(at)
 }
 
-/// Reads the page in a block.
-fn read_page<D: Device>(disk: &mut D, at: u32, into: &mut Page) -> Result<(), MapFault>
-    requires { (all : List (List ℕ)) → D.blocks disk.old ≡ Some all → at < length all }
+/// Reads the page in a block. It reads that block alone, and takes no memory. `BadMap` names the block where it isn't a page of its
+/// place.
+pub fn read_page<D: Device>(disk: &mut D, at: u32, into: &mut Page) -> Result<(), MapFault>
+    requires { WhereTold (D.blocks disk.old) (λ all. at < length all) }
     ensures looked { HasLooked D.Device disk.old disk.new }
-    ensures ok { OnOk result ((all : List (List ℕ)) → D.blocks disk.old ≡ Some all → HoldsPage into.new at all) }
-    ensures cause { IfErr result (λ e. IsReadFault (λ b all. (b ≡ at) × (has_header page_kind b (block_of all b) ≡ false))
+    ensures ok { OnOk result (WhereTold (D.blocks disk.old) (HoldsPage into.new at)) }
+    ensures cause { IfErr result (λ e. IsReadFault (IsNoPage at)
         e (D.blocks disk.old) (D.faults disk.old) (D.faults disk.new)) }
 {
     let mut block = [0; 1024];
@@ -160,7 +170,8 @@ fn read_page<D: Device>(disk: &mut D, at: u32, into: &mut Page) -> Result<(), Ma
 pub fn addresses<D: Device>(alloc: Global, disk: &mut D, object: Ref) -> Result<Vec<u32>, MapFault>
     requires object { IsIn (D.blocks disk.old) object }
     ensures looked { HasLooked D.Device disk.old disk.new }
-    ensures ok { IfOk result (λ xs. (all : List (List ℕ)) → D.blocks disk.old ≡ Some all → addresses_of all object ≡ Ok xs.items) }
+    ensures ok { IfOk result (λ xs. WhereTold (D.blocks disk.old)
+        (λ all. addresses_of all object ≡ Ok xs.items)) }
     ensures cause { IfErr result (λ e. IsWalkFault (λ b all. addresses_of all object ≡ Err b)
         e (D.blocks disk.old) (D.faults disk.old) (D.faults disk.new)) }
 {
@@ -171,11 +182,29 @@ pub fn addresses<D: Device>(alloc: Global, disk: &mut D, object: Ref) -> Result<
 pub fn blocks<D: Device>(alloc: Global, disk: &mut D, object: Ref) -> Result<Vec<u32>, MapFault>
     requires object { IsIn (D.blocks disk.old) object }
     ensures looked { HasLooked D.Device disk.old disk.new }
-    ensures ok { IfOk result (λ xs. (all : List (List ℕ)) → D.blocks disk.old ≡ Some all → blocks_of all object ≡ Ok xs.items) }
+    ensures ok { IfOk result (λ xs. WhereTold (D.blocks disk.old)
+        (λ all. blocks_of all object ≡ Ok xs.items)) }
     ensures cause { IfErr result (λ e. IsWalkFault (λ b all. blocks_of all object ≡ Err b)
         e (D.blocks disk.old) (D.faults disk.old) (D.faults disk.new)) }
 {
     walk(alloc, disk, object, true)
+}
+
+/// The maps of an object, the topmost one before its leaves. It reads one block where there are more than 252 pages, else none.
+pub fn maps<D: Device>(alloc: Global, disk: &mut D, object: Ref) -> Result<Vec<u32>, MapFault>
+    requires object { IsIn (D.blocks disk.old) object }
+    ensures looked { HasLooked D.Device disk.old disk.new }
+    ensures ok { IfOk result (λ bs. WhereTold (D.blocks disk.old)
+        (λ all. maps_of all object ≡ Ok bs.items)) }
+    ensures cause { IfErr result (λ e. IsWalkFault (λ b all. maps_of all object ≡ Err b)
+        e (D.blocks disk.old) (D.faults disk.old) (D.faults disk.new)) }
+{
+    let count = count_of(disk)?;
+    let leaves = leaves_of(disk, count, object)?;
+    let mut maps = Vec::with_capacity(alloc, most_maps(object.pages) as usize)?;
+    let named = leaves.split_at(leaf_count(object.pages) as usize).0;
+    put_leaf(&mut maps, object.pages > 252, object.root, named)?;
+    Ok(maps)
 }
 
 /// The blocks of an object's pages, and where they are wanted its maps, each before what it names.
@@ -187,13 +216,15 @@ fn walk<D: Device>(
 ) -> Result<Vec<u32>, MapFault>
     requires object { IsIn (D.blocks disk.old) object }
     ensures looked { HasLooked D.Device disk.old disk.new }
-    ensures ok { IfOk result (λ xs. (all : List (List ℕ)) → D.blocks disk.old ≡ Some all → walked maps all object ≡ Ok xs.items) }
+    ensures ok { IfOk result (λ xs. WhereTold (D.blocks disk.old)
+        (λ all. walked maps all object ≡ Ok xs.items)) }
     ensures cause { IfErr result (λ e. IsWalkFault (λ b all. walked maps all object ≡ Err b)
         e (D.blocks disk.old) (D.faults disk.old) (D.faults disk.new)) }
 {
     let count = count_of(disk)?;
     let leaves = leaves_of(disk, count, object)?;
-    let mut blocks = Vec::new(alloc);
+    let most = object.pages + most_maps(object.pages);
+    let mut blocks = Vec::with_capacity(alloc, most as usize)?;
     if maps && object.pages > 252 {
         blocks.push(object.root)?;
     }
@@ -207,7 +238,8 @@ fn walk<D: Device>(
 
 /// Puts the blocks that a leaf names at the end, behind the leaf itself where maps are wanted.
 fn put_leaf(blocks: &mut Vec<u32>, maps: bool, leaf: u32, named: &[u32]) -> Result<(), MapFault>
-    ensures ok { OnOk result (blocks.new.items ≡ blocks.old.items ++ (front maps leaf ++ named.now)) }
+    ensures ok { OnOk result
+        (blocks.new.items ≡ blocks.old.items ++ (front maps leaf ++ named.now)) }
     ensures cause { IfErr result (λ e. e ≡ NoMemory) }
 {
     if maps {

@@ -9,7 +9,7 @@ read_map-requires-clause-told g c = λ all told.
     let first = sym c.in_ok-count.ensures.looked.unchanged ∙ before in
     let within : c.args.n / 252 < leaf_count c.args.object.pages = omega (arith, c.requires.page) in (
       c.in_ok-count.ensures.count all first,
-      below_count _ (leaf_count c.args.object.pages) (c.args.n / 252) c.in_ok-leaves.leaves (c.in_ok-leaves.ensures.places all before) within (omega (arith, c.requires.object.few)),
+      below_count _ (leaf_count c.args.object.pages) (c.args.n / 252) c.in_ok-leaves.leaves (c.in_ok-leaves.ensures.places.may all before) within (omega (arith, c.requires.object.few)),
     )
 
 pub read_page-requires : goal.read_page-requires

@@ -12,7 +12,7 @@ read_map-requires-clause-told g c = λ all told.
     let before = c.in_ok-leaves.ensures.looked.unchanged ∙ (c.in_ok-count.ensures.looked.unchanged ∙ opened) in
     let within : c.loop-k.k < leaf_count c.args.object.pages = search rules in (
       c.in_ok-count.ensures.count all opened,
-      below_count _ (leaf_count c.args.object.pages) c.loop-k.k c.in_ok-leaves.leaves (c.in_ok-leaves.ensures.places all (sym c.in_ok-leaves.ensures.looked.unchanged ∙ before)) within (omega (arith, c.requires.object.few)),
+      below_count _ (leaf_count c.args.object.pages) c.loop-k.k c.in_ok-leaves.leaves (c.in_ok-leaves.ensures.places.may all (sym c.in_ok-leaves.ensures.looked.unchanged ∙ before)) within (omega (arith, c.requires.object.few)),
     )
 
 pub loop-k-preserved : goal.loop-k-preserved

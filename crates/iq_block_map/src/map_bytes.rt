@@ -2,17 +2,11 @@
 ghost use Rattle.std.specs.Prelude.{◌≡◌, ◌≤◌, nat_eq};
 ghost use Rattle.std.specs.List.{flat_map, list_all};
 ghost use Rattle.iq_block_store.specs.Frames.{bytes_of};
-ghost use Rattle.iq_block_map.specs.Maps.{places, is_map, are_places, is_address};
+ghost use Rattle.iq_block_map.specs.Maps.{places, raw_map, is_right_map, are_places, is_address};
 
 use byteorder::{ByteOrder, LittleEndian};
-use iq_block_store::{Page, has_header, number_at};
+use iq_block_store::{Page, number_at};
 use iq_outside::Block;
-
-/// The kind of a map.
-pub const MAP: u8 = 4;
-
-/// The kind of a page.
-pub const PAGE: u8 = 5;
 
 /// How many numbers a map has.
 pub const ROOM: usize = 252;
@@ -20,8 +14,15 @@ pub const ROOM: usize = 252;
 /// The numbers of a map.
 pub type Places = [u32; 252];
 
+/// What the block of a map says: its level, and its numbers, of which nothing is tested.
+#[derive(Clone, Copy, Debug)]
+pub struct RawMap {
+    pub level: u32,
+    pub numbers: [u32; 252],
+}
+
 /// The numbers behind a map's header.
-pub fn places_of(block: &Block) -> Places
+fn places_of(block: &Block) -> Places
     ensures { result ≡ places block.now }
 {
     let mut places = [0; 252];
@@ -38,14 +39,22 @@ pub fn payload_of(places: &Places) -> Page
     page
 }
 
-/// Whether a block is a map of a level, with so many numbers in use, in a store of so many blocks.
-pub fn is_map(count: u32, level: u32, used: usize, at: u32, block: &Block) -> bool
+/// Whether what was read is a map of a level, with so many numbers in use, in a store of so many blocks.
+pub fn is_right_map(count: u32, level: u32, used: usize, raw: &RawMap) -> bool
     requires { used ≤ 252 }
-    ensures { result ≡ is_map count level used at block.now }
+    ensures { result ≡ is_right_map count level used raw.now }
 {
-    has_header(MAP, at, block)
-        && number_at(block, 12) == level
-        && are_places(count, used, &places_of(block))
+    raw.level == level && are_places(count, used, &raw.numbers)
+}
+
+/// The level and the numbers behind a map's header.
+pub fn raw_map_of(block: &Block) -> RawMap
+    ensures { result ≡ raw_map block.now }
+{
+    RawMap {
+        level: number_at(block, 12),
+        numbers: places_of(block),
+    }
 }
 
 /// Whether so many numbers name blocks, and the others are zero.
