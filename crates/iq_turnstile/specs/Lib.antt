@@ -2,5 +2,3 @@ pub mod Notes
 pub mod Rule
 pub mod Steps
 pub mod Passes
-pub mod Counter
-pub mod CounterLaws

@@ -6,7 +6,6 @@
 #![tactic(auto)]
 
 mod close;
-pub mod counter;
 mod make;
 mod parts;
 mod plays;
@@ -18,6 +17,3 @@ mod view;
 
 pub use shared::{Act, Shared};
 pub use turnstile::{Kept, Pass, Returned, Turnstile};
-
-#[cfg(test)]
-mod tests;

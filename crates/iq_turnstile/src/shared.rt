@@ -27,7 +27,7 @@ pub trait Shared: Drop {
     ghost divides: { (n : Self.Note) (s : Self) → agrees n s → IsDivided agrees apart n (left n) (right n) s };
 }
 
-/// What one turn does to the state.
+/// What one turn does to the state. It takes no turn at the turnstile that it acts in: that would wait for ever.
 pub trait Act<S: Shared> {
     // The note of the pass that the act is for.
     ghost expects: { Self → S.Note };

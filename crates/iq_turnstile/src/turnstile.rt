@@ -18,7 +18,8 @@ pub struct Turnstile<S: Shared> {
     ghost some: { 0 < parts },
 }
 
-/// The right to take turns, with some of the parts of all such rights. It keeps no bytes of its note.
+/// The right to take turns, with some of the parts of all such rights. It keeps no bytes of its note. A pass that is dropped
+/// keeps its parts for ever, so that `close` can't give the state back.
 #[derive(Drop)]
 pub struct Pass<S: Shared> {
     pub(crate) seat: Seat<Option<S>, View<S, S::Note>>,

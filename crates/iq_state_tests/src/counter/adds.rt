@@ -1,10 +1,10 @@
 //! The act that adds to a counter.
 ghost use Rattle.std.specs.Prelude.{◌≡◌, true, false};
-ghost use Rattle.iq_turnstile.specs.Counter.{speaks_for, entry, grown, noted, knows_nothing};
+ghost use Rattle.iq_state_tests.specs.Counter.{speaks_for, entry, grown, noted, knows_nothing};
 ghost use Rattle.iq_turnstile.specs.Passes.{note_or};
 
 use super::Counter;
-use crate::{Act, Pass};
+use iq_turnstile::{Act, Pass};
 use std::snapshot::Snapshot;
 
 /// Adds an amount under a name that the pass speaks for.

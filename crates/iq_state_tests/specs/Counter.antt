@@ -1,9 +1,9 @@
 -- What passes know of a counter. A history is the list of all that was added.
 use Rattle.std.specs.Prelude.{◌≡◌, ℕ, suc, Bool, true, false, List, [], ◌∷◌, ◌++◌, filter, nat_eq, nat_le, if◌then◌else◌}
-use Rattle.iq_turnstile.specs.declared.counter.Added.{Added}
-use Rattle.iq_turnstile.specs.declared.counter.Names.{Names}
-use Rattle.iq_turnstile.specs.declared.counter.Names.TheVariants.{Nobody, One, From}
-use Rattle.iq_turnstile.specs.declared.counter.Mine.{Mine}
+use Rattle.iq_state_tests.specs.declared.counter.Added.{Added}
+use Rattle.iq_state_tests.specs.declared.counter.Names.{Names}
+use Rattle.iq_state_tests.specs.declared.counter.Names.TheVariants.{Nobody, One, From}
+use Rattle.iq_state_tests.specs.declared.counter.Mine.{Mine}
 use Rattle.iq_turnstile.specs.declared.turnstile.Turnstile.{Turnstile}
 use Rattle.iq_turnstile.specs.declared.turnstile.Pass.{Pass}
 use Rattle.iq_turnstile.specs.Passes.{IsOf, note_or}

@@ -1,9 +1,9 @@
 ghost use Rattle.std.specs.Prelude.{◌≡◌, ◌<◌, All, IfSome, length, true};
-ghost use Rattle.iq_turnstile.specs.Counter.{CanAdd, entry, noted, speaks_for, knows_nothing};
+ghost use Rattle.iq_state_tests.specs.Counter.{CanAdd, entry, noted, speaks_for, knows_nothing};
 ghost use Rattle.iq_turnstile.specs.Passes.{IsOf, note_or, parts_of, all_parts};
 
 use crate::counter::{Added, Adds, Counter};
-use crate::{Pass, Shared, Turnstile};
+use iq_turnstile::{Pass, Shared, Turnstile};
 use std::sync::Wait;
 use std::test::Fail;
 use std::thread;

@@ -1,11 +1,11 @@
 -- The laws of a counter's notes, which its `impl` cites.
 use Rattle.std.specs.Prelude.{◌≡◌, ℕ, suc, ◌≤◌, Bool, true, false, cond, List, [], ◌∷◌, filter}
 use Rattle.std.proofs.Common.{sym, refl, ap, ◌∙◌, subst, true≢false, le_of_lt, le_of_eq, lt_irrefl, le-leb, leb-true, eqb-true}
-use Rattle.iq_turnstile.specs.declared.counter.Added.{Added}
-use Rattle.iq_turnstile.specs.declared.counter.Names.{Names}
-use Rattle.iq_turnstile.specs.declared.counter.Names.TheVariants.{Nobody, One, From}
-use Rattle.iq_turnstile.specs.declared.counter.Mine.{Mine}
-use Rattle.iq_turnstile.specs.Counter.{speaks_for, added_by, rest_of, least_of, left_note, right_note, Knows, ShareNoName}
+use Rattle.iq_state_tests.specs.declared.counter.Added.{Added}
+use Rattle.iq_state_tests.specs.declared.counter.Names.{Names}
+use Rattle.iq_state_tests.specs.declared.counter.Names.TheVariants.{Nobody, One, From}
+use Rattle.iq_state_tests.specs.declared.counter.Mine.{Mine}
+use Rattle.iq_state_tests.specs.Counter.{speaks_for, added_by, rest_of, least_of, left_note, right_note, Knows, ShareNoName}
 use Rattle.iq_turnstile.specs.Notes.{IsDivided}
 
 skipped : {X : Type 0} (x : X) (zs : List X) (b : Bool) → (b ≡ true → false ≡ true) → zs ≡ cond b (x ∷ zs) zs

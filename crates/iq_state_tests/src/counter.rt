@@ -2,9 +2,9 @@
 //!
 //! Contracts see a `Counter` as the list of what was added.
 ghost use Rattle.std.specs.Prelude.{◌≡◌, [], ◌∷◌, ◌++◌, OnOk, OnErr, length};
-ghost use Rattle.iq_turnstile.specs.Counter.{entry};
+ghost use Rattle.iq_state_tests.specs.Counter.{entry};
 
-use crate::Shared;
+use iq_turnstile::Shared;
 use std::alloc::{AllocError, Global};
 use std::collections::LinkedList;
 use std::marker::Model;
@@ -42,7 +42,7 @@ pub struct Counter {
 
 impl Model for Counter {
     ghost use Rattle.std.specs.Prelude.{List};
-    ghost use Rattle.iq_turnstile.specs.declared.counter.Added.{Added};
+    ghost use Rattle.iq_state_tests.specs.declared.counter.Added.{Added};
 
     ghost Value = { List Added };
 
@@ -83,8 +83,8 @@ impl Counter {
 }
 
 impl Shared for Counter {
-    ghost use Rattle.iq_turnstile.specs.Counter.{knows_all, Knows, OnlyAdds, ShareNoName, left_note, right_note};
-    ghost use Rattle.iq_turnstile.specs.CounterLaws.{share_both_ways, divides_names};
+    ghost use Rattle.iq_state_tests.specs.Counter.{knows_all, Knows, OnlyAdds, ShareNoName, left_note, right_note};
+    ghost use Rattle.iq_state_tests.specs.CounterLaws.{share_both_ways, divides_names};
 
     type Note = Mine;
 
