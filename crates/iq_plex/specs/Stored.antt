@@ -7,7 +7,7 @@ use Rattle.iq_base.specs.declared.values.Value.{Value}
 use Rattle.iq_base.specs.declared.schemas.Column.{Column}
 use Rattle.iq_ast.specs.declared.statements.Item.{Item}
 use Rattle.iq_model.specs.Statements.{insert_checks, column_place, item_column, first_no_column}
-use Rattle.iq_pages.specs.declared.memory_pages.MemoryPages.{MemoryPages}
+use Rattle.iq_plex.specs.declared.sure_pages.SurePages.{SurePages}
 use Rattle.iq_pages.specs.MemoryView.{memory_pages}
 use Rattle.iq_pages.specs.Pages.{Pages}
 use Rattle.iq_table.specs.Table.{TableStands}
@@ -16,8 +16,8 @@ use Rattle.iq_model.specs.Tables.{Table, Database, content, live_slot, same_name
 use Rattle.iq_plex.specs.Plex.{Grants}
 
 -- the pages of each object, all of which are told
-abbrev pub told_by : MemoryPages → ℕ → Option Pages
-told_by pages object = Some (memory_pages pages object)
+abbrev pub told_by : SurePages → ℕ → Option Pages
+told_by pages object = Some (memory_pages pages.memory object)
 
 -- A stored table stands for a plain one: it has its name and its columns, its pages hold its rows, and all of them are there.
 pub record StandsFor (stored : Stored) (t : Table) : Type 0 where

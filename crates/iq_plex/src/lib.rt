@@ -8,6 +8,7 @@
 mod plex;
 mod queries;
 mod stored;
+mod sure_pages;
 mod tables;
 mod writes;
 

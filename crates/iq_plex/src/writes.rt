@@ -9,10 +9,10 @@ ghost use Rattle.iq_plex.specs.Plex.{Grants, Refuses};
 ghost use Rattle.iq_plex.specs.Stored.{StandsFor, bare, AreFit, OfTables, Leads, StayAs, OfTable, TableLeads, StaysAs};
 
 use crate::stored::Stored;
+use crate::sure_pages::SurePages;
 use crate::tables::{before, place_of};
 use iq_ast::Write;
 use iq_base::{Column, Listed, Name, NoMemory, Refusal, Row, Schema, row_limit};
-use iq_pages::MemoryPages;
 use iq_table::Table as PagedTable;
 use std::alloc::Global;
 
@@ -65,8 +65,8 @@ fn empty_stored(alloc: Global, name: &Name, columns: &[Column]) -> Result<Stored
 {
     let columns = copied_columns(alloc, columns)?;
     let table = PagedTable::new(name.again(), Schema { columns });
-    let mut pages = MemoryPages::new(alloc, Vec::new(alloc));
-    // Pages in memory of which no call is to fail refuse for want of memory alone.
+    let mut pages = SurePages::new(alloc);
+    // Pages of which no call is to fail refuse for want of memory alone.
     match table.create(0, &mut pages) {
         Ok(()) => Ok(Stored { table, pages }),
         Err(_) => Err(NoMemory),
