@@ -1,5 +1,6 @@
 //! Reading and writing one block.
 ghost use Rattle.std.specs.Prelude.{◌≡◌, ◌<◌, ℕ, true, List, Some, length, IfErr, OnOk};
+ghost use Rattle.iq_outside.specs.Devices.{HasPlace};
 ghost use Rattle.iq_outside.specs.DeviceCalls.{HasWritten};
 ghost use Rattle.iq_block_store.specs.Frames.{has_header, framed};
 ghost use Rattle.iq_block_store.specs.Faults.{ReadFails, WriteFails, IsBlockAt, CameUnlessFault};
@@ -35,7 +36,7 @@ impl Error for BlockFault {}
 
 /// Reads a block of a kind, header and payload. It takes no memory.
 pub fn read<D: Device>(disk: &mut D, at: u32, kind: u8, into: &mut Block) -> Result<(), BlockFault>
-    requires { (all : List (List ℕ)) → D.blocks disk.old ≡ Some all → at < length all }
+    requires { HasPlace (D.blocks disk.old) at }
     ensures looked { HasLooked D.Device disk.old disk.new }
     ensures header { OnOk result (has_header kind at into.new ≡ true) }
     ensures block { OnOk result (IsBlockAt at into.new (D.blocks disk.old)) }
@@ -62,8 +63,9 @@ pub fn write<D: Device>(
     level: u32,
     payload: &Page,
 ) -> Result<(), BlockFault>
-    requires { (all : List (List ℕ)) → D.blocks disk.old ≡ Some all → at < length all }
-    ensures written { HasWritten D.Device at (framed kind at level payload.now) result disk.old disk.new }
+    requires { HasPlace (D.blocks disk.old) at }
+    ensures written { HasWritten D.Device at (framed kind at level payload.now) result
+        disk.old disk.new }
     ensures cause { IfErr result (λ e. WriteFails e (D.faults disk.old) (D.faults disk.new)) }
 {
     let before = disk.faults();

@@ -26,7 +26,8 @@ impl Error for StoreFault {}
 /// How many blocks there are. One call of the device, which takes no memory.
 pub fn count_of<D: Device>(disk: &mut D) -> Result<u32, StoreFault>
     ensures looked { HasLooked D.Device disk.old disk.new }
-    ensures count { IfOk result (λ n. (all : List (List ℕ)) → D.blocks disk.old ≡ Some all → n ≡ length all) }
+    ensures count { IfOk result (λ n. (all : List (List ℕ)) → D.blocks disk.old ≡ Some all
+        → n ≡ length all) }
     ensures fits { IfOk result (λ n. n < 2 ^ 32) }
     ensures cause { IfErr result (λ e. IsRise e (D.faults disk.old) (D.faults disk.new)) }
 {

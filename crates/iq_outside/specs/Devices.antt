@@ -12,6 +12,10 @@ zero_block = replicate 1024 0
 abbrev pub block_of : List (List ℕ) → ℕ → List ℕ
 block_of blocks i = slice_index_or blocks i []
 
+-- there is a block in this place, where the blocks are told
+abbrev pub HasPlace : Option (List (List ℕ)) → ℕ → Type 0
+HasPlace told at = (all : List (List ℕ)) → told ≡ Some all → at < length all
+
 -- two lists of blocks differ at most in this place
 pub record SameBut (at : ℕ) (old new : List (List ℕ)) : Type 0 where
   pub size : length new ≡ length old

@@ -1,6 +1,6 @@
 //! Where blocks are kept.
-ghost use Rattle.std.specs.Prelude.{◌≡◌, ◌<◌, ℕ, List, Option, Some, Bool, IsTrue, length};
-ghost use Rattle.iq_outside.specs.Devices.{seen, Counts, Reads, Writes, Resizes, Syncs, WholeMayStay};
+ghost use Rattle.std.specs.Prelude.{◌≡◌, ℕ, List, Option, Some, Bool, IsTrue};
+ghost use Rattle.iq_outside.specs.Devices.{seen, HasPlace, Counts, Reads, Writes, Resizes, Syncs, WholeMayStay};
 
 use crate::Failed;
 
@@ -40,13 +40,13 @@ pub trait Device: Drop {
 
     /// Reads a block, with a number from 0.
     fn read(&mut self, at: u32, into: &mut Block) -> Result<(), Failed>
-        requires { (all : List (List ℕ)) → blocks self.old ≡ Some all → at < length all }
+        requires { HasPlace (blocks self.old) at }
         ensures { Reads at into.new result (seen blocks faults tells clock image whole self.old)
             (seen blocks faults tells clock image whole self.new) };
 
     /// Writes a block. Until a sync, a stop may leave any bytes there; so may a failed write.
     fn write(&mut self, at: u32, from: &Block) -> Result<(), Failed>
-        requires { (all : List (List ℕ)) → blocks self.old ≡ Some all → at < length all }
+        requires { HasPlace (blocks self.old) at }
         ensures { Writes at from.now result (seen blocks faults tells clock image whole self.old)
             (seen blocks faults tells clock image whole self.new) };
 
@@ -68,5 +68,6 @@ pub trait Device: Drop {
         → blocks device ≡ Some all → image device (clock device) all };
 
     /// And it may leave any bytes that are whole in a block now.
-    ghost stays_whole: { (device : Self) → WholeMayStay (seen blocks faults tells clock image whole device) };
+    ghost stays_whole: { (device : Self)
+        → WholeMayStay (seen blocks faults tells clock image whole device) };
 }

@@ -1,7 +1,7 @@
 //! Blocks in memory that stop after a number of calls.
 ghost use Rattle.std.specs.Prelude.{◌≡◌, ◌<◌, ◌≤◌, ◌-◌, ◌^◌, [], ℕ, ◌==◌, List, Some, length, vec_len, is_err, IsErr, OnErr, reverse};
 ghost use Rattle.iq_outside.specs.Faults.{HasRisen};
-ghost use Rattle.iq_outside.specs.Devices.{Counts, Reads, Writes, Resizes, Syncs};
+ghost use Rattle.iq_outside.specs.Devices.{HasPlace, Counts, Reads, Writes, Resizes, Syncs};
 ghost use Rattle.iq_outside.specs.Records.{fused_seen};
 ghost use Rattle.iq_outside.specs.Changes.{image_told, whole_told, stopped};
 
@@ -124,7 +124,7 @@ impl Device for FuseDevice {
     }
 
     fn read(&mut self, at: u32, into: &mut Block) -> Result<(), Failed>
-        requires { (all : List (List ℕ)) → (fused_seen self.old).blocks ≡ Some all → at < length all }
+        requires { HasPlace (fused_seen self.old).blocks at }
         ensures read { Reads at into.new result (fused_seen self.old) (fused_seen self.new) }
         ensures blown { is_err result ≡ (self.old.passes == 0) }
     {
@@ -134,7 +134,7 @@ impl Device for FuseDevice {
     }
 
     fn write(&mut self, at: u32, from: &Block) -> Result<(), Failed>
-        requires { (all : List (List ℕ)) → (fused_seen self.old).blocks ≡ Some all → at < length all }
+        requires { HasPlace (fused_seen self.old).blocks at }
         ensures written { Writes at from.now result (fused_seen self.old) (fused_seen self.new) }
         ensures blown { self.old.passes ≡ 0 → IsErr result }
     {

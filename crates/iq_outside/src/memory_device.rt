@@ -1,7 +1,7 @@
 //! Blocks in memory that fail where they are told to, and tell what a stop may leave.
 ghost use Rattle.std.specs.Prelude.{◌≡◌, ◌<◌, ◌^◌, [], ℕ, List, Some, length, vec_len, ◌≤◌, is_err, IsTrue, IsErr, OnOk, OnErr};
 ghost use Rattle.iq_outside.specs.Calls.{plan_of, is_listed, after_fault};
-ghost use Rattle.iq_outside.specs.Devices.{Counts, Reads, Writes, Resizes, Syncs};
+ghost use Rattle.iq_outside.specs.Devices.{HasPlace, Counts, Reads, Writes, Resizes, Syncs};
 ghost use Rattle.iq_outside.specs.Records.{taped_seen};
 ghost use Rattle.iq_outside.specs.Changes.{image_told, whole_told};
 
@@ -91,7 +91,7 @@ impl Device for MemoryDevice {
     }
 
     fn read(&mut self, at: u32, into: &mut Block) -> Result<(), Failed>
-        requires { (all : List (List ℕ)) → (taped_seen self.old).blocks ≡ Some all → at < length all }
+        requires { HasPlace (taped_seen self.old).blocks at }
         ensures read { Reads at into.new result (taped_seen self.old) (taped_seen self.new) }
         ensures listed { is_err result ≡ is_listed self.old.plan }
     {
@@ -101,7 +101,7 @@ impl Device for MemoryDevice {
     }
 
     fn write(&mut self, at: u32, from: &Block) -> Result<(), Failed>
-        requires { (all : List (List ℕ)) → (taped_seen self.old).blocks ≡ Some all → at < length all }
+        requires { HasPlace (taped_seen self.old).blocks at }
         ensures written { Writes at from.now result (taped_seen self.old) (taped_seen self.new) }
         ensures listed { IsTrue (is_listed self.old.plan) → IsErr result }
     {

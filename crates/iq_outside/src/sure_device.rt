@@ -1,6 +1,6 @@
 //! Blocks in memory.
 ghost use Rattle.std.specs.Prelude.{◌≡◌, ◌<◌, ◌^◌, ℕ, List, Some, length, vec_len, IsOk};
-ghost use Rattle.iq_outside.specs.Devices.{Counts, Reads, Writes, Syncs};
+ghost use Rattle.iq_outside.specs.Devices.{HasPlace, Counts, Reads, Writes, Syncs};
 ghost use Rattle.iq_outside.specs.Records.{held_seen};
 ghost use Rattle.std.proofs.Common.{rules};
 
@@ -74,7 +74,7 @@ impl Device for SureDevice {
     }
 
     fn read(&mut self, at: u32, into: &mut Block) -> Result<(), Failed>
-        requires { (all : List (List ℕ)) → (held_seen self.old).blocks ≡ Some all → at < length all }
+        requires { HasPlace (held_seen self.old).blocks at }
         ensures read { Reads at into.new result (held_seen self.old) (held_seen self.new) }
         ensures sure { IsOk result }
     {
@@ -83,7 +83,7 @@ impl Device for SureDevice {
     }
 
     fn write(&mut self, at: u32, from: &Block) -> Result<(), Failed>
-        requires { (all : List (List ℕ)) → (held_seen self.old).blocks ≡ Some all → at < length all }
+        requires { HasPlace (held_seen self.old).blocks at }
         ensures written { Writes at from.now result (held_seen self.old) (held_seen self.new) }
         ensures sure { IsOk result }
     {

@@ -6,10 +6,9 @@ use Rattle.iq_outside.specs.DeviceCalls.{KeepsPast, AddsNone}
 use Rattle.iq_outside.specs.declared.device.Device.{Ghosts}
 use Rattle.iq_block_store.specs.Looks.{HasLooked}
 use Rattle.iq_outside.specs.Devices.{block_of}
-use Rattle.iq_block_store.specs.Frames.{body_kind, gate_kind}
-use Rattle.iq_root.specs.Roots.{body_place, gate_place}
+use Rattle.iq_root.specs.Roots.{gate_place}
 use Rattle.iq_root.specs.Stops.{LeavesOnly}
-use Rattle.iq_root.specs.Publishing.{IsUntorn, unheaded, as_whole, RootsUntorn}
+use Rattle.iq_root.specs.Publishing.{IsUntorn, unheaded, as_whole, GatesUntorn}
 
 module _ {D : Type 0} (g : Ghosts D) where
   pub past_on : (old mid new : D) → KeepsPast g old mid → KeepsPast g mid new → KeepsPast g old new
@@ -45,17 +44,13 @@ module _ {D : Type 0} (g : Ghosts D) where
     since = none_on old mid new first.past second.past first.since second.since;
   }
 
-  -- what holds of the roots at some moments of a run holds at fewer, and so for each call within it
-  pub untorn_within : (old new : D) (first last since until : ℕ) → KeepsPast g old new → RootsUntorn g new first last → first ≤ since → until ≤ last
-      → until ≤ g.clock old → RootsUntorn g old since until
-  untorn_within old new first last since until past untorn from upto early t b late before left =
-      let now = untorn t b (omega (arith, late, from)) (omega (arith, before, upto)) (past.keeps t b (omega (arith, before, early)) left) in
-      record {
-        bodies = λ slot two. untorn_before old new t (body_place slot) body_kind (block_of b (body_place slot)) past (omega (arith, before, early)) (now.bodies slot two);
-        gates = λ slot two. untorn_before old new t (gate_place slot) gate_kind (block_of b (gate_place slot)) past (omega (arith, before, early)) (now.gates slot two);
-      }
+  -- what is taken for granted of the gates at some moments of a run holds at fewer, and so for each call within it
+  pub untorn_within : (old new : D) (first last since until : ℕ) → KeepsPast g old new → GatesUntorn g new first last → first ≤ since → until ≤ last
+      → until ≤ g.clock old → GatesUntorn g old since until
+  untorn_within old new first last since until past untorn from upto early t b late before left slot two =
+      untorn_before t (gate_place slot) (block_of b (gate_place slot)) (omega (arith, before, early))
+      (untorn t b (omega (arith, late, from)) (omega (arith, before, upto)) (past.keeps t b (omega (arith, before, early)) left) slot two)
     where
-      untorn_before : (old new : D) (t at kind : ℕ) (x : List ℕ) → KeepsPast g old new → t ≤ g.clock old
-          → IsUntorn (g.whole new t at) kind at x → IsUntorn (g.whole old t at) kind at x
-      untorn_before old new t at kind x past early (unheaded missing) = unheaded missing
-      untorn_before old new t at kind x past early (as_whole y whole reads) = as_whole y (past.whole_before t at y early whole) reads
+      untorn_before : (t at : ℕ) (x : List ℕ) → t ≤ g.clock old → IsUntorn (g.whole new t at) at x → IsUntorn (g.whole old t at) at x
+      untorn_before t at x early (unheaded missing) = unheaded missing
+      untorn_before t at x early (as_whole y whole reads) = as_whole y (past.whole_before t at y early whole) reads

@@ -71,7 +71,7 @@ same_root slot all b same =
 
 -- a slot of the same body whose gate reads the same
 same_read : (slot : ℕ) (all b : List (List ℕ)) → block_of b (body_place slot) ≡ block_of all (body_place slot)
-    → ReadsAs gate_kind (gate_place slot) (block_of b (gate_place slot)) (block_of all (gate_place slot)) → slot_root slot b ≡ slot_root slot all
+    → ReadsAs (gate_place slot) (block_of b (gate_place slot)) (block_of all (gate_place slot)) → slot_root slot b ≡ slot_root slot all
 same_read slot all b body gate =
     ap (λ (x : List ℕ). if is_valid slot x (block_of b (gate_place slot)) then Some (root_of x) else None) body
     ∙ rw (gate.header, gate.generation) refl

@@ -5,11 +5,10 @@ use Rattle.iq_outside.specs.Devices.{block_of, SameBut, WholeMayStay}
 use Rattle.iq_outside.specs.DeviceCalls.{view, KeepsPast}
 use Rattle.iq_outside.specs.declared.device.Device.{Ghosts}
 use Rattle.iq_outside.proofs.ImageLemmas.{SameBut-set}
-use Rattle.iq_block_store.specs.Frames.{gate_kind}
 use Rattle.iq_root.specs.Roots.{long_at, body_place, gate_place, body_block, gate_block, newest}
 use Rattle.iq_root.specs.Pages.{RootFits}
 use Rattle.iq_root.specs.Stops.{SameButSlot, LeavesOnly, LeftButSlot}
-use Rattle.iq_root.specs.Publishing.{slot_of, published, Follows, HasLastOrNew, SameRoots, IsStale, ReadsAs, IsGateWhole, as_before, closed, headless, RootsUntorn, IsUntorn, unheaded, as_whole, RootsAreSafe, HasKept}
+use Rattle.iq_root.specs.Publishing.{slot_of, published, Follows, HasLastOrNew, SameRoots, IsStale, ReadsAs, IsGateWhole, as_before, closed, headless, GatesUntorn, IsUntorn, unheaded, as_whole, RootsAreSafe, HasKept}
 use Rattle.std.proofs.lemmas.Nat.{mod_below}
 use Rattle.iq_root.proofs.BodyLemmas.{gate_tells}
 use Rattle.iq_root.proofs.MomentLemmas.{past_on, leaves_on}
@@ -78,14 +77,14 @@ module _ {D : Type 0} (g : Ghosts D) where
           sym from.2 ∙ settled from.0 from.1 (gate_place (slot_of root)) (omega (arith, two))
 
       -- so a gate that isn't torn while it is closed reads as before, or as a closed one
-      gate_of : (old : D) (b : List (List ℕ)) (y : List ℕ) → ReadsAs gate_kind (gate_place (slot_of root)) (block_of b (gate_place (slot_of root))) y
+      gate_of : (old : D) (b : List (List ℕ)) (y : List ℕ) → ReadsAs (gate_place (slot_of root)) (block_of b (gate_place (slot_of root))) y
           → (y ≡ block_of all (gate_place (slot_of root))) ⊎ (y ≡ gate_block (slot_of root) 0) → IsGateWhole all root b
-      gate_of old b y reads (inl before) = as_before (subst (ReadsAs gate_kind (gate_place (slot_of root)) (block_of b (gate_place (slot_of root)))) before reads)
+      gate_of old b y reads (inl before) = as_before (subst (ReadsAs (gate_place (slot_of root)) (block_of b (gate_place (slot_of root)))) before reads)
       gate_of old b y reads (inr shut) = closed (reads.generation ∙ ap (λ (x : List ℕ). long_at x 16) shut ∙ gate_tells (slot_of root) 0 (omega arith))
 
       untorn_gate : {T E : Type 0} (r : Result T E) (old mid new : D) (t : ℕ) (b : List (List ℕ)) → Closes r old mid → KeepsPast g mid new → WholeMayStay (view g old)
           → g.blocks old ≡ Some all → ((b : List (List ℕ)) → g.image old (g.clock old) b → SameRoots all b) → g.clock old ≤ t → t ≤ g.clock mid
-          → IsUntorn (g.whole new t (gate_place (slot_of root))) gate_kind (gate_place (slot_of root)) (block_of b (gate_place (slot_of root)))
+          → IsUntorn (g.whole new t (gate_place (slot_of root))) (gate_place (slot_of root)) (block_of b (gate_place (slot_of root)))
           → IsGateWhole all root b
       untorn_gate r old mid new t b closes past may told settled since until (unheaded missing) = headless missing
       untorn_gate r old mid new t b closes past may told settled since until (as_whole y whole reads) =
@@ -103,11 +102,11 @@ module _ {D : Type 0} (g : Ghosts D) where
           let from = closes.since t b since until left in
           closing all last root follows four fits from.0 b (safe.settled from.0 from.1) from.2 (torn_of safe.torn)
         where
-          torn_of : (IsStale all last root ⊎ RootsUntorn g new (g.clock old) (g.clock new)) → IsStale all last root ⊎ IsGateWhole all root b
+          torn_of : (IsStale all last root ⊎ GatesUntorn g new (g.clock old) (g.clock new)) → IsStale all last root ⊎ IsGateWhole all root b
           torn_of (inl stale) = inl stale
           torn_of (inr untorn) =
               inr (untorn_gate r old mid new t b closes past may told safe.settled since until
-              ((untorn t b since (omega (arith, until, past.later)) (past.keeps t b until left)).gates (slot_of root) (mod_below root.generation 2 (omega arith))))
+              (untorn t b since (omega (arith, until, past.later)) (past.keeps t b until left) (slot_of root) (mod_below root.generation 2 (omega arith))))
 
       pub any_first : {T E : Type 0} (r : Result T E) (old new : D) → WholeMayStay (view g old) → g.blocks old ≡ Some all → Closes r old new
           → RootsAreSafe g all last root old new → LeavesOnly g old new (HasLastOrNew all last root)

@@ -45,44 +45,40 @@ pub record HasBody (all : List (List ℕ)) (root : Root) (b : List (List ℕ)) :
   pub body : block_of b (body_place (slot_of root)) ≡ body_block (slot_of root) root
   pub rest : SameButSlot (slot_of root) all b
 
--- a block reads as another one where its header and its generation decide
-pub record ReadsAs (kind at : ℕ) (x y : List ℕ) : Type 0 where
-  pub header : has_header kind at x ≡ has_header kind at y
+-- the bytes of a gate read as others do: 24 of them decide, the header and the generation
+pub record ReadsAs (at : ℕ) (x y : List ℕ) : Type 0 where
+  pub header : has_header gate_kind at x ≡ has_header gate_kind at y
   pub generation : long_at x 16 ≡ long_at y 16
 
 -- what a write to the gate in a root's slot may leave there: it reads as before, or as a closed one, or it has no right header, or
 -- the body behind it is there already
 pub data IsGateWhole (all : List (List ℕ)) (root : Root) (b : List (List ℕ)) : Type 0 where
-  as_before : ReadsAs gate_kind (gate_place (slot_of root)) (block_of b (gate_place (slot_of root))) (block_of all (gate_place (slot_of root)))
+  as_before : ReadsAs (gate_place (slot_of root)) (block_of b (gate_place (slot_of root))) (block_of all (gate_place (slot_of root)))
       → IsGateWhole all root b
   closed : long_at (block_of b (gate_place (slot_of root))) 16 ≡ 0 → IsGateWhole all root b
   headless : has_header gate_kind (gate_place (slot_of root)) (block_of b (gate_place (slot_of root))) ≡ false → IsGateWhole all root b
   behind_body : HasBody all root b → IsGateWhole all root b
 
--- a block isn't torn: it has no right header, or it reads as bytes that were whole there
-pub data IsUntorn (whole : List ℕ → Type 0) (kind at : ℕ) (x : List ℕ) : Type 0 where
-  unheaded : has_header kind at x ≡ false → IsUntorn whole kind at x
-  as_whole : (y : List ℕ) → whole y → ReadsAs kind at x y → IsUntorn whole kind at x
+-- a gate isn't torn: it has no right header, or it reads as bytes that were whole there
+pub data IsUntorn (whole : List ℕ → Type 0) (at : ℕ) (x : List ℕ) : Type 0 where
+  unheaded : has_header gate_kind at x ≡ false → IsUntorn whole at x
+  as_whole : (y : List ℕ) → whole y → ReadsAs at x y → IsUntorn whole at x
 
--- none of the four blocks of roots is torn
-pub record AreUntorn (whole : ℕ → List ℕ → Type 0) (b : List (List ℕ)) : Type 0 where
-  pub bodies : (slot : ℕ) → slot < 2 → IsUntorn (whole (body_place slot)) body_kind (body_place slot) (block_of b (body_place slot))
-  pub gates : (slot : ℕ) → slot < 2 → IsUntorn (whole (gate_place slot)) gate_kind (gate_place slot) (block_of b (gate_place slot))
-
--- What is taken for granted of a device that tears blocks: a stop at any moment from one to another leaves the four blocks of roots
--- untorn. It is said once for a run, since it holds of fewer moments where it holds of more.
-abbrev pub RootsUntorn : {D : Type 0} → Ghosts D → D → ℕ → ℕ → Type 0
-RootsUntorn g now first last = (t : ℕ) (b : List (List ℕ)) → first ≤ t → t ≤ last → g.image now t b → AreUntorn (g.whole now t) b
+-- What is taken for granted of a device that tears blocks: a stop at any moment from one to another leaves both gates untorn. It is
+-- said once for a run, since it holds of fewer moments where it holds of more. Of bodies nothing is asked.
+abbrev pub GatesUntorn : {D : Type 0} → Ghosts D → D → ℕ → ℕ → Type 0
+GatesUntorn g now first last = (t : ℕ) (b : List (List ℕ)) → first ≤ t → t ≤ last → g.image now t b → (slot : ℕ) → slot < 2
+    → IsUntorn (g.whole now t (gate_place slot)) (gate_place slot) (block_of b (gate_place slot))
 
 -- the four blocks of roots are the same
 abbrev pub SameRoots : List (List ℕ) → List (List ℕ) → Type 0
 SameRoots all b = (i : ℕ) → i < 4 → block_of b i ≡ block_of all i
 
 -- What a promise over stops takes for granted of the blocks of roots. No write to them waits for a sync; and the body in the slot to
--- be written is stale, or else no block of roots is torn meanwhile.
+-- be written is stale, or else no gate is torn meanwhile.
 pub record RootsAreSafe {D : Type 0} (g : Ghosts D) (all : List (List ℕ)) (last root : Root) (old new : D) : Type 0 where
   pub settled : (b : List (List ℕ)) → g.image old (g.clock old) b → SameRoots all b
-  pub torn : IsStale all last root ⊎ RootsUntorn g new (g.clock old) (g.clock new)
+  pub torn : IsStale all last root ⊎ GatesUntorn g new (g.clock old) (g.clock new)
 
 -- A block was written and synced. At Ok it is in its place and nothing waits any more; at a fault any bytes may be there.
 pub record HasKept {D T E : Type 0} (g : Ghosts D) (at : ℕ) (block : List ℕ) (result : Result T E) (old new : D) : Type 0 where

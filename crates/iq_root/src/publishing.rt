@@ -30,11 +30,13 @@ pub fn publish<D: Device>(disk: &mut D, root: &Root) -> Result<(), RootFault>
         → LeavesOnly D.Device disk.old disk.new (HasLastOrNew all last root.now) }
     ensures halted { (all after : List (List ℕ)) (last : _) → D.blocks disk.old ≡ Some all
         → Follows all last root.now → D.blocks disk.new ≡ Some after
-        → IsStale all last root.now ⊎ IsGateWhole all root.now after → HasLastOrNew all last root.now after }
+        → IsStale all last root.now ⊎ IsGateWhole all root.now after
+        → HasLastOrNew all last root.now after }
 
     // Blocks outside the slot stay.
     ensures others { (all : List (List ℕ)) → D.blocks disk.old ≡ Some all
-        → (after : List (List ℕ)) × (D.blocks disk.new ≡ Some after) × SameButSlot (slot_of root.now) all after }
+        → (after : List (List ℕ)) × (D.blocks disk.new ≡ Some after)
+        × SameButSlot (slot_of root.now) all after }
     ensures left { LeavesOnly D.Device disk.old disk.new
         (LeftButSlot D.Device (slot_of root.now) disk.old) }
     ensures past { KeepsPast D.Device disk.old disk.new }
