@@ -1,5 +1,6 @@
 -- Lists of bits, as callers see a bitmap and a page of one.
 use Rattle.std.specs.Prelude.{◌≡◌, ◌<◌, ◌≤◌, ℕ, ◌+◌, ◌*◌, ◌/◌, ◌%◌, Bool, true, false, ◌&&◌, ◌||◌, not, ◌==◌, List, [], ◌∷◌, length, map, slice_index, slice_index_or}
+use Rattle.iq_bitmap.specs.declared.page_words.TheConstants.{CHUNK_ROWS}
 use Rattle.std.specs.Int.{bit_at}
 use Rattle.std.specs.List.{range_with_len}
 use Rattle.std.specs.Simd.Lanes.{zip2, put_chunk}
@@ -43,12 +44,12 @@ rows_from n (false ∷ bits) = rows_from (n + 1) bits
 
 -- the bits of a page of 1,008 bytes
 unfoldable pub page_bits : List ℕ → List Bool
-page_bits page = bits_of 8 page 8064
+page_bits page = bits_of 8 page CHUNK_ROWS
 
 -- the rows of a chunk, of which each past the last is not set
 unfoldable pub chunk_of : ℕ → List Bool → List Bool
-chunk_of chunk bits = map (λ i. slice_index_or bits (chunk * 8064 + i) false) (range_with_len 0 8064)
+chunk_of chunk bits = map (λ i. slice_index_or bits (chunk * CHUNK_ROWS + i) false) (range_with_len 0 CHUNK_ROWS)
 
 -- the rows with other bits in the place of a chunk's, as far as there are rows
 abbrev pub with_chunk : ℕ → List Bool → List Bool → List Bool
-with_chunk chunk rows bits = put_chunk (chunk * 8064) rows bits
+with_chunk chunk rows bits = put_chunk (chunk * CHUNK_ROWS) rows bits

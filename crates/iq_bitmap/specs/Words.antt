@@ -1,5 +1,6 @@
 -- The words in which a bitmap keeps its bits.
 use Rattle.std.specs.Prelude.{◌≡◌, ◌<◌, ◌≤◌, ℕ, ◌+◌, ◌-◌, ◌*◌, ◌/◌, ◌^◌, ◌==◌, Bool, true, false, List, length, slice_index}
+use Rattle.iq_bitmap.specs.declared.page_words.TheConstants.{CHUNK_ROWS}
 use Rattle.std.specs.Int.{w64, bit_at, to_le_bytes}
 use Rattle.std.specs.Simd.Lanes.{chunk}
 use Rattle.iq_bitmap.specs.Bits.{bit_of}
@@ -15,9 +16,9 @@ pub record IsTight (words : List ℕ) (n : ℕ) : Type 0 where
   pub spare : (i : ℕ) → n ≤ i → bit_of 64 words i ≡ false
 
 -- an operation on two words does to each of their bits what the other does to two bits, and gives zero where both are zero
-pub record IsBitwise (gate : ℕ → ℕ → ℕ) (bits : Bool → Bool → Bool) : Type 0 where
-  pub each : (a b j : ℕ) → b < 2 ^ 64 → j < 64 → (bit_at (gate a b) j == 1) ≡ bits (bit_at a j == 1) (bit_at b j == 1)
-  pub zeros : bits false false ≡ false
+pub record IsBitwise (on_words : ℕ → ℕ → ℕ) (on_bits : Bool → Bool → Bool) : Type 0 where
+  pub each : (a b j : ℕ) → b < 2 ^ 64 → j < 64 → (bit_at (on_words a b) j == 1) ≡ on_bits (bit_at a j == 1) (bit_at b j == 1)
+  pub zeros : on_bits false false ≡ false
 
 -- no bit from a place on is set
 abbrev pub HasNoBitFrom : List ℕ → ℕ → Type 0
@@ -37,9 +38,9 @@ pub record IsLoaded (old new : List ℕ) (at : ℕ) (page : List ℕ) : Type 0 w
 
 -- the bits of a page stand in the place of those from `from` on, the others below `len` are as before, and those past it zero
 pub record HoldsPage (old new : List ℕ) (from len : ℕ) (page : List ℕ) : Type 0 where
-  pub inside : (i : ℕ) → from ≤ i → i < from + 8064 → i < len → bit_of 64 new i ≡ bit_of 8 page (i - from)
+  pub inside : (i : ℕ) → from ≤ i → i < from + CHUNK_ROWS → i < len → bit_of 64 new i ≡ bit_of 8 page (i - from)
   pub before : (i : ℕ) → i < from → i < len → bit_of 64 new i ≡ bit_of 64 old i
-  pub after : (i : ℕ) → from + 8064 ≤ i → i < len → bit_of 64 new i ≡ bit_of 64 old i
+  pub after : (i : ℕ) → from + CHUNK_ROWS ≤ i → i < len → bit_of 64 new i ≡ bit_of 64 old i
   pub past : (i : ℕ) → len ≤ i → bit_of 64 new i ≡ false
 
 -- the words before `end` have each bit set, and the others are as before

@@ -4,8 +4,8 @@ ghost use Rattle.std.specs.Int.{bit_at};
 ghost use Rattle.std.specs.Simd.Lanes.{zip2};
 ghost use Rattle.iq_bitmap.specs.Bits.{both, either, difference, IsNextSet, HasNoneFrom, page_bits, chunk_of, with_chunk, rows_from};
 
-use crate::gates::{self, And, Gate, Or, Without};
-use crate::page_words::{self, PAGE_WORDS};
+use crate::operations::{self, And, Or, Without, WordOperation};
+use crate::page_words::{self, CHUNK_ROWS, PAGE_WORDS};
 use crate::rows::Rows;
 use crate::{ones, words};
 use iq_base::{NoMemory, Page};
@@ -148,7 +148,7 @@ impl Bitmap {
 
     /// Reads a chunk's rows from a page. Bits of the page past the last row are left out. The chunk begins below the length.
     pub fn load_page(&mut self, chunk: u32, from: &Page)
-        requires { chunk * 8064 < length self.old }
+        requires { chunk * CHUNK_ROWS < length self.old }
         ensures { self.new ≡ with_chunk chunk self.old (page_bits from.now) }
     {
         page_words::load_bits(
@@ -162,23 +162,23 @@ impl Bitmap {
     /// Writes a chunk's rows into a page: bit i mod 8, least first, of byte i div 8 is row i of the chunk, and zero past the
     /// last. The chunk begins below the length.
     pub fn store_page(&self, chunk: u32, into: &mut Page)
-        requires { chunk * 8064 < length self.now }
+        requires { chunk * CHUNK_ROWS < length self.now }
         ensures { page_bits into.new ≡ chunk_of chunk self.now }
     {
         page_words::store_words(&self.words, chunk as usize * PAGE_WORDS, into);
     }
 
-    /// Whether no row is set: the bitmap is as `empty` makes it, whatever its length. It costs as much as `next`.
-    pub fn is_empty(&self) -> bool
+    /// Whether no row is set, whatever the length: the bitmap is as `empty` makes it. It costs as much as `next`.
+    pub fn has_none(&self) -> bool
         ensures { IsTrue result ↔ (self.now ≡ replicate (length self.now) false) }
     {
         self.next(0).is_none()
     }
 
-    fn combine<G: Gate>(&mut self, other: &Bitmap)
+    fn combine<O: WordOperation>(&mut self, other: &Bitmap)
         requires { length self.old ≡ length other.now }
-        ensures { self.new ≡ zip2 G.bits self.old other.now }
+        ensures { self.new ≡ zip2 O.on_bits self.old other.now }
     {
-        gates::apply::<G>(&mut self.words, &other.words);
+        operations::apply::<O>(&mut self.words, &other.words);
     }
 }

@@ -6,13 +6,12 @@
 #![tactic(auto)]
 
 mod bitmap;
-mod gates;
 mod ones;
+mod operations;
 mod page_words;
 mod rows;
-#[cfg(test)]
-mod tests;
 mod words;
 
 pub use bitmap::Bitmap;
+pub use page_words::CHUNK_ROWS;
 pub use rows::Rows;

@@ -10,6 +10,9 @@ use iq_base::Page;
 /// How many words a page has.
 pub const PAGE_WORDS: usize = 126;
 
+/// How many rows a page has a bit for: those of a chunk.
+pub const CHUNK_ROWS: u32 = 8064;
+
 fn word_at(page: &[u8], at: usize) -> u64
     requires { at + 8 ≤ length page.now }
     ensures { to_le_bytes w64 result ≡ chunk at 8 page.now }
@@ -63,7 +66,7 @@ fn trim(words: &mut [u64], len: usize)
 pub fn store_words(words: &[u64], at: usize, page: &mut Page)
     requires small { length words.now < 2 ^ 50 }
     requires within { at ≤ length words.now }
-    ensures { (i : ℕ) → i < 8064 → bit_of 8 page.new i ≡ bit_of 64 words.now (at * 64 + i) }
+    ensures { (i : ℕ) → i < CHUNK_ROWS → bit_of 8 page.new i ≡ bit_of 64 words.now (at * 64 + i) }
 {
     let count = PAGE_WORDS.min(words.len() - at);
     for k in 0..count {

@@ -1,13 +1,10 @@
 //! The bitmap beside a plain program over lists of bits.
-use crate::bitmap::Bitmap;
 use iq_base::NoMemory;
+use iq_bitmap::{Bitmap, CHUNK_ROWS};
 use std::alloc::Global;
 
 /// Lengths round a byte, a word, a page and a whole table.
 const LENGTHS: [u32; 11] = [0, 1, 7, 8, 63, 64, 65, 8063, 8064, 8065, 262_144];
-
-/// How many rows a page has.
-const CHUNK: u32 = 8064;
 
 /// Bits in which no word and no page is like another.
 fn scattered(alloc: Global, len: u32, salt: u32) -> Result<Vec<bool>, NoMemory> {
@@ -61,7 +58,7 @@ fn walks(bitmap: &Bitmap, bits: &[bool], count: u32) -> bool {
         from = row.saturating_add(1);
         seen = seen.wrapping_add(1);
     }
-    seen == count && bitmap.is_empty() == (count == 0)
+    seen == count && bitmap.has_none() == (count == 0)
 }
 
 #[test]
@@ -108,7 +105,7 @@ fn page_bit(page: &[u8], row: u32) -> bool {
 
 /// Whether a page has the bits of a list from a row on, and zeros past its end.
 fn holds(page: &[u8], bits: &[bool], first: u32) -> bool {
-    for row in 0..CHUNK {
+    for row in 0..CHUNK_ROWS {
         if page_bit(page, row) != is_on(bits, first.saturating_add(row)) {
             return false;
         }
@@ -124,11 +121,11 @@ fn pages_keep_chunks_and_no_bit_past_the_length(rt: HostRuntime) -> Result<(), N
         let mut loaded = Bitmap::full(rt.alloc(), len)?;
         let mut filled = Bitmap::empty(rt.alloc(), len)?;
         assert!(rt;
-            loaded.count() == len && filled.is_empty(),
+            loaded.count() == len && filled.has_none(),
             "{len} rows, all and none"
         );
         for chunk in 0..33u32 {
-            let first = chunk * CHUNK;
+            let first = chunk * CHUNK_ROWS;
             if first < bitmap.len() && first < loaded.len() && first < filled.len() {
                 let mut page = [0x55u8; 1008];
                 bitmap.store_page(chunk, &mut page);

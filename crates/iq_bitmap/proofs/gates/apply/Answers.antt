@@ -1,9 +1,0 @@
-use Rattle.std.proofs.Common.{arith, ◌∙◌}
-use Rattle.iq_bitmap.proofs.Lanes.{lanes_more}
-use Rattle.iq_bitmap.proofs.gates.apply.Goals as goal
-
-pub lanes-preserved : goal.lanes-preserved
-lanes-preserved g c = record {
-  within = omega arith;
-  done = lanes_more g.G.Gate.gate c.lanes.at 4 c.lanes.words c.args.others.now c.apply_lanes.new.words (omega arith) (omega arith) c.apply_lanes.ensures ∙ c.lanes.invariant.done;
-}
