@@ -80,6 +80,7 @@ fn count_for<D: Device>(disk: &mut D, object: Ref) -> Result<u32, MapFault>
 }
 
 /// Whether pages may be in these blocks, of so many.
+#[tactic(auto, using(iq_block_map::proofs::NamedLemmas::each_of))]
 fn are_blocks(count: u32, blocks: &[u32]) -> bool
     ensures { IsTrue result → All (λ a. is_address count a ≡ true) blocks.now }
 {
