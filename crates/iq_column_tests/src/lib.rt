@@ -1,5 +1,8 @@
-//! Tests of the layers of columns, over their public calls alone: `bitmaps` has bitmaps beside plain lists of bits.
+//! Tests of the layers of columns, by their public calls alone: bitmaps beside plain lists of bits, and tables over pages in
+//! memory.
 #![tactic(auto)]
 
 #[cfg(test)]
 mod bitmaps;
+#[cfg(test)]
+mod tables;

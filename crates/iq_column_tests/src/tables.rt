@@ -1,6 +1,6 @@
-use crate::{Table, are_rows_of};
 use iq_base::{Column, Kind, Listed, Name, Row, Schema, Text, Value, row_limit};
 use iq_pages::{MemoryPages, PageFault, PageSink};
+use iq_table::{Table, are_rows_of};
 use std::alloc::Global;
 use std::process::Abort;
 use std::test::Fail;

@@ -1,8 +1,7 @@
 //! Cases of values and names that no script reaches, so that the definitions are seen to mean what is written of them.
-use crate::answers::Out;
-use crate::{column_place, first_bad_row, first_no_column, names_of, out_of};
 use iq_ast::{Item, Write};
 use iq_base::{Column, FieldCause, Kind, Listed, Locks, Name, Refusal, Row, Text, Value};
+use iq_model::{Out, column_place, first_bad_row, first_no_column, names_of, out_of};
 use std::alloc::Global;
 use std::fmt::Debug;
 use std::process::Abort;

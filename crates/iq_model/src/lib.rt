@@ -11,8 +11,6 @@ mod locking;
 mod projection;
 mod replies;
 mod scripts;
-#[cfg(test)]
-mod tests;
 
 pub use answers::{Answer, Freed, NodeVersion, Out, Sent, Versions};
 pub use checks::{column_place, first_bad_row, first_no_column};

@@ -12,8 +12,6 @@ mod pages;
 mod read;
 mod rows;
 mod table;
-#[cfg(test)]
-mod tests;
 
 pub use rows::are_rows_of;
 pub use table::Table;
