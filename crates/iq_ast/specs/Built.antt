@@ -79,24 +79,24 @@ pub record IsPlainSelect (select : Select) : Type 0 where
   pub order : select.order ≡ []
 
 -- a CREATE TABLE or an INSERT
-abbrev pub IsBuiltWrite : Write → Type 0
-IsBuiltWrite (CreateTable name schema) = IsName name × AreColumns schema.columns
-IsBuiltWrite (DropTable name) = ⊥
-IsBuiltWrite (CreateIndex name kind table column second) = ⊥
-IsBuiltWrite (DropIndex table name) = ⊥
-IsBuiltWrite (Insert table rows) = IsName table × AreTuples rows
-IsBuiltWrite (Load table rows text) = ⊥
-IsBuiltWrite (Delete table cond) = ⊥
-IsBuiltWrite (Update table changes cond) = ⊥
+abbrev pub IsWriteOfGrammar : Write → Type 0
+IsWriteOfGrammar (CreateTable name schema) = IsName name × AreColumns schema.columns
+IsWriteOfGrammar (DropTable name) = ⊥
+IsWriteOfGrammar (CreateIndex name kind table column second) = ⊥
+IsWriteOfGrammar (DropIndex table name) = ⊥
+IsWriteOfGrammar (Insert table rows) = IsName table × AreTuples rows
+IsWriteOfGrammar (Load table rows text) = ⊥
+IsWriteOfGrammar (Delete table cond) = ⊥
+IsWriteOfGrammar (Update table changes cond) = ⊥
 
 -- a statement of one of these forms
-abbrev pub IsBuilt : Statement → Type 0
-IsBuilt (statement.Write write) = IsBuiltWrite write
-IsBuilt (statement.Select select) = IsPlainSelect select
-IsBuilt statement.Begin = ⊥
-IsBuilt statement.Commit = ⊥
-IsBuilt statement.Rollback = ⊥
-IsBuilt (statement.Savepoint name) = ⊥
-IsBuilt (statement.BackTo name) = ⊥
-IsBuilt (statement.Release name) = ⊥
-IsBuilt statement.Sync = ⊥
+abbrev pub IsOfGrammar : Statement → Type 0
+IsOfGrammar (statement.Write write) = IsWriteOfGrammar write
+IsOfGrammar (statement.Select select) = IsPlainSelect select
+IsOfGrammar statement.Begin = ⊥
+IsOfGrammar statement.Commit = ⊥
+IsOfGrammar statement.Rollback = ⊥
+IsOfGrammar (statement.Savepoint name) = ⊥
+IsOfGrammar (statement.BackTo name) = ⊥
+IsOfGrammar (statement.Release name) = ⊥
+IsOfGrammar statement.Sync = ⊥

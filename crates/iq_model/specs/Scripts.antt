@@ -7,7 +7,7 @@ use Rattle.iq_base.specs.declared.nodes.SessionSpec.{SessionSpec}
 use Rattle.iq_ast.specs.declared.statements.Statement.{Statement}
 use Rattle.iq_ast.specs.declared.statements.Statement.TheVariants as statements
 use Rattle.iq_ast.specs.declared.statements.Write.TheVariants as writes
-use Rattle.iq_ast.specs.Built.{IsBuilt}
+use Rattle.iq_ast.specs.Built.{IsOfGrammar}
 use Rattle.iq_model.specs.Statements.{HasMeaning}
 use Rattle.iq_model.specs.declared.scripts.Deed.{Deed}
 use Rattle.iq_model.specs.declared.scripts.Deed.TheVariants as deeds
@@ -23,9 +23,9 @@ abbrev pub the_session : ℕ → SessionSpec
 the_session lines = record { name = 115 ∷ []; node = 0; lines = lines }
 
 -- a deed that is a statement of the grammar
-abbrev pub IsBuiltDeed : Deed → Type 0
-IsBuiltDeed (deeds.Statement statement) = IsBuilt statement
-IsBuiltDeed (deeds.Step step) = ⊥
+abbrev pub IsDeedOfGrammar : Deed → Type 0
+IsDeedOfGrammar (deeds.Statement statement) = IsOfGrammar statement
+IsDeedOfGrammar (deeds.Step step) = ⊥
 
 -- a deed that is a statement with a meaning
 abbrev pub HasDeedMeaning : Deed → Type 0
@@ -58,7 +58,7 @@ HasFewDeedTuples (deeds.Step step) = ⊤
 -- a line of the first session that is a statement of the grammar, and has a meaning
 pub record IsRunnableLine (line : Line) : Type 0 where
   pub session : line.session ≡ Some 0
-  pub deed : IsBuiltDeed line.deed
+  pub deed : IsDeedOfGrammar line.deed
   pub meaning : HasDeedMeaning line.deed
   pub tuples : HasFewDeedTuples line.deed
 

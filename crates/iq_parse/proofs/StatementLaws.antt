@@ -10,7 +10,7 @@ use Rattle.iq_ast.specs.declared.statements.Write.{Write}
 use Rattle.iq_ast.specs.declared.statements.Write.TheVariants as write
 use Rattle.iq_ast.specs.declared.statements.Statement.{Statement}
 use Rattle.iq_ast.specs.declared.statements.Statement.TheVariants as statement
-use Rattle.iq_ast.specs.Built.{AreColumns, AreTuples, IsTuple, IsPlainSelect, IsBuilt}
+use Rattle.iq_ast.specs.Built.{AreColumns, AreTuples, IsTuple, IsPlainSelect, IsOfGrammar}
 use Rattle.iq_parse.specs.declared.faults.ParseFault.{ParseFault}
 use Rattle.iq_parse.specs.declared.faults.ParseFault.TheVariants.{Unbuilt}
 use Rattle.iq_parse.specs.declared.tokens.Mark.{Mark as TheMark}
@@ -27,7 +27,7 @@ use Rattle.iq_parse.proofs.Sound.{tokens_sound}
 
 -- what was read from the front is a statement of the grammar, and was spelled so
 abbrev BeginsStatement : List Token → Taken Statement → Type 0
-BeginsStatement ts x = Begins ts (spelling x.value) x.rest × IsBuilt x.value
+BeginsStatement ts x = Begins ts (spelling x.value) x.rest × IsOfGrammar x.value
 
 -- the first word of a statement
 first_word : (m : TheMark) (ts : List Token) → AreTokens ts → Begins (Mark m ∷ ts) (Mark m ∷ []) ts
@@ -89,7 +89,7 @@ select_takes ts x sound e =
     let e02 = Begins-then ts items a.0.rest (Mark From ∷ Name c.0.value ∷ []) c.0.rest t0.0 e12 in
     let made : Taken Statement = taken (plain_select a.0.value c.0.value) c.0.rest in
     let whole : Begins (Mark Select ∷ ts) (spelling made.value) c.0.rest = Begins-then (Mark Select ∷ ts) (Mark Select ∷ []) ts (items ++ Mark From ∷ Name c.0.value ∷ []) c.0.rest (first_word Select ts sound) e02 in
-    let plain : IsBuilt made.value = record { table = t2.1; items = t0.1; explain = refl; cond = refl; group = refl; order = refl } in
+    let plain : IsOfGrammar made.value = record { table = t2.1; items = t0.1; explain = refl; cond = refl; group = refl; order = refl } in
     read_as (BeginsStatement (Mark Select ∷ ts)) made x c.2 (whole, plain)
 
 statement_takes : (ts : List Token) (x : Taken Statement) → AreTokens ts → statement_at ts ≡ Some x → BeginsStatement ts x
@@ -203,7 +203,7 @@ select_again select rest fits =
     ap select_at regrouped
     ∙ rw (items_again select.items (Name select.table ∷ rest) fits.items, mark_again From (Name select.table ∷ rest), name_again select.table rest) (ap (λ (s : Statement). Some (taken s rest)) (plain_select_is select fits))
 
-write_again : (w : Write) (rest : List Token) → IsBuilt (statement.Write w) → mark_at Comma rest ≡ None → statement_at (spelling (statement.Write w) ++ rest) ≡ Some (taken (statement.Write w) rest)
+write_again : (w : Write) (rest : List Token) → IsOfGrammar (statement.Write w) → mark_at Comma rest ≡ None → statement_at (spelling (statement.Write w) ++ rest) ≡ Some (taken (statement.Write w) rest)
 write_again (write.CreateTable name schema) rest built comma = create_again name schema.columns rest built.1
 write_again (write.Insert table rows) rest built comma = insert_again table rows rest built.1 comma
 write_again (write.DropTable name) rest built comma = absurd built
@@ -213,7 +213,7 @@ write_again (write.Load table rows text) rest built comma = absurd built
 write_again (write.Delete table cond) rest built comma = absurd built
 write_again (write.Update table changes cond) rest built comma = absurd built
 
-statement_again : (s : Statement) (rest : List Token) → IsBuilt s → mark_at Comma rest ≡ None → statement_at (spelling s ++ rest) ≡ Some (taken s rest)
+statement_again : (s : Statement) (rest : List Token) → IsOfGrammar s → mark_at Comma rest ≡ None → statement_at (spelling s ++ rest) ≡ Some (taken s rest)
 statement_again (statement.Write w) rest built comma = write_again w rest built comma
 statement_again (statement.Select select) rest built comma = select_again select rest built
 statement_again statement.Begin rest built comma = absurd built
@@ -224,7 +224,7 @@ statement_again (statement.BackTo name) rest built comma = absurd built
 statement_again (statement.Release name) rest built comma = absurd built
 statement_again statement.Sync rest built comma = absurd built
 
-whole_again : (s : Statement) (rest : List Token) → IsBuilt s → IsBehind rest → statement_of (spelling s ++ rest) ≡ Some s
+whole_again : (s : Statement) (rest : List Token) → IsOfGrammar s → IsBehind rest → statement_of (spelling s ++ rest) ≡ Some s
 unfolding statement_of
 whole_again s rest built behind = rw (statement_again s rest built behind.1, behind.0) refl
 
@@ -248,7 +248,7 @@ pub is_found : (text : List ℕ) (r : Result Statement ParseFault) → Gives (λ
 is_found text (Ok s) given = read_found text s given
 is_found text (Err e) given = tt
 
-pub is_built : (text : List ℕ) (r : Result Statement ParseFault) → Gives (λ s. s) r (read text) → IfOk r IsBuilt
+pub is_built : (text : List ℕ) (r : Result Statement ParseFault) → Gives (λ s. s) r (read text) → IfOk r IsOfGrammar
 is_built text (Ok s) given = (read_found text s given).spells.built
 is_built text (Err e) given = tt
 

@@ -11,7 +11,7 @@ use Rattle.iq_ast.specs.declared.statements.Write.{Write}
 use Rattle.iq_ast.specs.declared.statements.Write.TheVariants as write
 use Rattle.iq_ast.specs.declared.statements.Statement.{Statement}
 use Rattle.iq_ast.specs.declared.statements.Statement.TheVariants as statement
-use Rattle.iq_ast.specs.Built.{IsBuilt}
+use Rattle.iq_ast.specs.Built.{IsOfGrammar}
 use Rattle.iq_parse.specs.declared.tokens.Mark.TheVariants.{Create, Table, Insert, Into, Values, Select, From, Count, Int, Null, Open, Close, Comma, Star, Semicolon}
 use Rattle.iq_parse.specs.declared.tokens.Token.{Token}
 use Rattle.iq_parse.specs.declared.tokens.Token.TheVariants.{Mark, Name, Number, Other}
@@ -83,7 +83,7 @@ spelling statement.Sync = unspelled
 
 -- the tokens spell the statement, with or without a `;` at the end
 pub record Spells (statement : Statement) (tokens : List Token) : Type 0 where
-  pub built : IsBuilt statement
+  pub built : IsOfGrammar statement
   pub spelled : (tokens ≡ spelling statement) ⊎ (tokens ≡ spelling statement ++ Mark Semicolon ∷ [])
 
 -- the text is short enough, and its tokens spell the statement

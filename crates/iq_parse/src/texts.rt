@@ -1,6 +1,6 @@
 //! The statement of a text.
 ghost use Rattle.std.specs.Prelude.{◌≡◌, Ok, Err, Result, List, ℕ, IfOk};
-ghost use Rattle.iq_ast.specs.Built.{IsBuilt};
+ghost use Rattle.iq_ast.specs.Built.{IsOfGrammar};
 ghost use Rattle.iq_ast.specs.declared.statements.Statement.{Statement as TheStatement};
 ghost use Rattle.iq_parse.specs.Grammar.{IsStatementOf, IsOff, SpellsOne};
 ghost use Rattle.iq_parse.specs.Reading as spec;
@@ -30,7 +30,7 @@ fn read(alloc: Global, text: &[u8]) -> Result<Statement, ParseFault>
 /// tabs may stand between tokens, and a `;` may end the text. `Unbuilt` comes exactly where no statement is spelled.
 pub fn parse(alloc: Global, text: &[u8]) -> Result<Statement, ParseFault>
     ensures found { IfOk result (IsStatementOf text.now) }
-    ensures built { IfOk result IsBuilt }
+    ensures built { IfOk result IsOfGrammar }
     ensures only { (s : TheStatement) → IsStatementOf text.now s → Gives (λ x. x) result (Some s) }
     ensures unbuilt { result ≡ Err ParseFault.Unbuilt → IsOff text.now }
 {

@@ -9,7 +9,7 @@ use Rattle.iq_base.specs.Locks.{catalog_name}
 use Rattle.iq_ast.specs.declared.statements.Write.{Write}
 use Rattle.iq_ast.specs.declared.statements.Write.TheVariants as writes
 use Rattle.iq_ast.specs.Words.{reserved, is_reserved}
-use Rattle.iq_ast.specs.Built.{IsBuiltWrite}
+use Rattle.iq_ast.specs.Built.{IsWriteOfGrammar}
 use Rattle.iq_model.specs.Tables.{Table, Database, same_name, table_of, with_rows, empty_table}
 use Rattle.iq_model.specs.Statements.{first_refusal, found_if, insert_checks, write_checks, names_of, created_by, inserted, effect}
 use Rattle.iq_model.specs.State.{committed}
@@ -42,7 +42,7 @@ pub record Commits (write : Write) (db : Database) : Type 0 where
   pub locks_one : names_of write ≡ name ∷ []
   pub whole : first_refusal (write_checks write db) ≡ None → committed (record { seen = effect write db; held = name ∷ []; created = created_by write }) db ≡ effect write db
 
-pub commits-built : (write : Write) (db : Database) → IsBuiltWrite write → Commits write db
+pub commits-built : (write : Write) (db : Database) → IsWriteOfGrammar write → Commits write db
 commits-built (writes.CreateTable name schema) db built =
     record {
       name = catalog_name;

@@ -2,7 +2,7 @@
 ghost use Rattle.std.specs.Prelude.{◌≡◌, IfOk};
 ghost use Rattle.std.specs.Option.{option_copied};
 ghost use Rattle.iq_model.specs.Statements.{inserted, effect, HasWriteMeaning};
-ghost use Rattle.iq_ast.specs.Built.{IsBuiltWrite};
+ghost use Rattle.iq_ast.specs.Built.{IsWriteOfGrammar};
 
 use crate::tables::{PlainTable, PlainTables, placed, push_tables, replaced, table_of};
 use iq_ast::Write;
@@ -11,7 +11,7 @@ use std::alloc::Global;
 
 /// Copies of the tables as a write leaves them, where it is not refused.
 pub fn effect(alloc: Global, write: &Write, tables: &[PlainTable]) -> Result<PlainTables, NoMemory>
-    requires built { IsBuiltWrite write.now }
+    requires built { IsWriteOfGrammar write.now }
     requires meaning { HasWriteMeaning write.now }
     ensures { IfOk result (λ after. after ≡ effect write.now tables.now) }
 {

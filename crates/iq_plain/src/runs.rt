@@ -1,6 +1,6 @@
 //! A script of one session, run line by line over plain tables.
 ghost use Rattle.std.specs.Prelude.{◌≡◌, ◌+◌, ◌<◌, ◌≤◌, ◌^◌, [], ◌∷◌, IfOk, Some, None, length};
-ghost use Rattle.iq_ast.specs.Built.{IsBuilt, IsBuiltWrite};
+ghost use Rattle.iq_ast.specs.Built.{IsOfGrammar, IsWriteOfGrammar};
 ghost use Rattle.iq_model.specs.Scripts.{IsRunnableLine, IsRunnable, HasFewTuples};
 ghost use Rattle.iq_model.specs.Statements.{first_refusal, statement_checks, room_checks, HasMeaning, HasWriteMeaning};
 ghost use Rattle.iq_model.specs.State.{start};
@@ -88,7 +88,7 @@ fn run_statement(
     latest: u64,
 ) -> Result<LineRun, NoMemory>
     requires deed { line.now.deed ≡ Deed.Statement statement.now }
-    requires built { IsBuilt statement.now }
+    requires built { IsOfGrammar statement.now }
     requires meaning { HasMeaning statement.now }
     requires few { HasFewTuples statement.now }
     requires more { latest + 1 < 2 ^ 64 }
@@ -120,7 +120,7 @@ fn run_write(
     latest: u64,
 ) -> Result<LineRun, NoMemory>
     requires deed { line.now.deed ≡ Deed.Statement (Statement.Write write.now) }
-    requires built { IsBuiltWrite write.now }
+    requires built { IsWriteOfGrammar write.now }
     requires meaning { HasWriteMeaning write.now }
     requires few { HasFewTuples (Statement.Write write.now) }
     requires granted { first_refusal (statement_checks (Statement.Write write.now) tables) ≡ None }
@@ -175,7 +175,7 @@ fn full_line(
     latest: u64,
 ) -> Result<LineRun, NoMemory>
     requires deed { line.now.deed ≡ Deed.Statement (Statement.Write write.now) }
-    requires built { IsBuiltWrite write.now }
+    requires built { IsWriteOfGrammar write.now }
     requires meaning { HasWriteMeaning write.now }
     requires few { HasFewTuples (Statement.Write write.now) }
     requires granted { first_refusal (statement_checks (Statement.Write write.now) tables) ≡ None }
@@ -216,7 +216,7 @@ fn written_line(
     latest: u64,
 ) -> Result<LineRun, NoMemory>
     requires deed { line.now.deed ≡ Deed.Statement (Statement.Write write.now) }
-    requires built { IsBuiltWrite write.now }
+    requires built { IsWriteOfGrammar write.now }
     requires meaning { HasWriteMeaning write.now }
     requires few { HasFewTuples (Statement.Write write.now) }
     requires granted { first_refusal (statement_checks (Statement.Write write.now) tables) ≡ None }

@@ -10,7 +10,7 @@ use Rattle.iq_base.specs.declared.schemas.Schema.{Schema}
 use Rattle.iq_base.specs.declared.refusals.Refusal.TheVariants as refusals
 use Rattle.iq_base.specs.Locks.{catalog_name}
 use Rattle.iq_ast.specs.Words.{is_reserved}
-use Rattle.iq_ast.specs.Built.{IsBuilt, IsBuiltWrite}
+use Rattle.iq_ast.specs.Built.{IsOfGrammar, IsWriteOfGrammar}
 use Rattle.iq_ast.specs.declared.statements.Statement.{Statement}
 use Rattle.iq_ast.specs.declared.statements.Statement.TheVariants as statements
 use Rattle.iq_ast.specs.declared.statements.Write.{Write}
@@ -102,7 +102,7 @@ commits_create : (name : Name) (schema : Schema) (newest : Database) (found : Op
 commits_create name schema newest (Some t) is free granted = cc
 commits_create name schema newest None is free granted = commits_placed name newest (empty_table name schema.columns) free refl is
 
-commits_write : (write : Write) (newest : Database) → IsBuiltWrite write → first_refusal (statement_checks (statements.Write write) newest ++ room_checks (statements.Write write) newest) ≡ None
+commits_write : (write : Write) (newest : Database) → IsWriteOfGrammar write → first_refusal (statement_checks (statements.Write write) newest ++ room_checks (statements.Write write) newest) ≡ None
     → committed (takes_effect (statements.Write write) (work_before newest (statements.Write write))) newest ≡ tables_after (statements.Write write) newest
 commits_write (writes.CreateTable name schema) newest built granted = commits_create name schema newest (table_of name newest) refl built.0.free granted
 commits_write (writes.DropTable name) newest built granted = absurd built
@@ -114,7 +114,7 @@ commits_write (writes.Delete table cond) newest built granted = absurd built
 commits_write (writes.Update table changes cond) newest built granted = absurd built
 
 -- where a statement that nothing refuses took effect on the latest commit, its commit is what its transaction sees
-pub commits_effect : (st : Statement) (newest : Database) → IsBuilt st → first_refusal (statement_checks st newest ++ room_checks st newest) ≡ None
+pub commits_effect : (st : Statement) (newest : Database) → IsOfGrammar st → first_refusal (statement_checks st newest ++ room_checks st newest) ≡ None
     → committed (takes_effect st (work_before newest st)) newest ≡ tables_after st newest
 commits_effect (statements.Write write) newest built granted = commits_write write newest built granted
 commits_effect (statements.Select select) newest built granted = refl
@@ -127,7 +127,7 @@ commits_effect (statements.Release name) newest built granted = absurd built
 commits_effect statements.Sync newest built granted = absurd built
 
 -- a statement that holds no name leaves the tables as they are
-pub keeps_tables : (st : Statement) (newest : Database) → IsBuilt st → locks st ≡ [] → tables_after st newest ≡ newest
+pub keeps_tables : (st : Statement) (newest : Database) → IsOfGrammar st → locks st ≡ [] → tables_after st newest ≡ newest
 keeps_tables (statements.Write (writes.CreateTable name schema)) newest built none = cc
 keeps_tables (statements.Write (writes.DropTable name)) newest built none = absurd built
 keeps_tables (statements.Write (writes.CreateIndex name kind table column second)) newest built none = absurd built

@@ -5,12 +5,12 @@ use Rattle.std.specs.List.{AllByRecursion, slice_get}
 use Rattle.std.specs.Option.{option_or}
 use Rattle.iq_base.specs.Shorts.{Name}
 use Rattle.iq_ast.specs.declared.statements.Statement.{Statement}
-use Rattle.iq_ast.specs.Built.{IsBuilt}
+use Rattle.iq_ast.specs.Built.{IsOfGrammar}
 use Rattle.iq_history.specs.declared.entries.Entry.TheVariants as entries
 use Rattle.iq_model.specs.declared.scripts.Line.{Line}
 use Rattle.iq_model.specs.declared.scripts.Deed.{Deed}
 use Rattle.iq_model.specs.declared.scripts.Deed.TheVariants as deeds
-use Rattle.iq_model.specs.Scripts.{IsRunnableLine, IsBuiltDeed}
+use Rattle.iq_model.specs.Scripts.{IsRunnableLine, IsDeedOfGrammar}
 use Rattle.iq_model.specs.Tables.{Database}
 use Rattle.iq_model.specs.Statements.{first_refusal, statement_checks, room_checks, tables_after}
 use Rattle.iq_model.specs.State.{Stage, fresh, begun, locked, done, Work, Run, Standing, idle, lost, running, NodeState, Written, State, Desk, not_held, locks, lock_checks}
@@ -40,10 +40,10 @@ line_takes-on : (place l : ℕ) (left : List Line) (P : Statement → Type 0) (o
 line_takes-on place l left P on work = rw (on.left_is, on.deed) refl
 
 -- and its statement is of the grammar
-built-on : (place l : ℕ) (left : List Line) (P : Statement → Type 0) (on : OnDesk place l left P) → AllByRecursion IsRunnableLine left → IsBuilt on.statement
+built-on : (place l : ℕ) (left : List Line) (P : Statement → Type 0) (on : OnDesk place l left P) → AllByRecursion IsRunnableLine left → IsOfGrammar on.statement
 built-on place l left P on all =
     let here : AllByRecursion IsRunnableLine (on.line ∷ on.rest) = subst (AllByRecursion IsRunnableLine) on.left_is all in
-    subst IsBuiltDeed on.deed here.0.deed
+    subst IsDeedOfGrammar on.deed here.0.deed
 
 -- LOCK
 
@@ -144,7 +144,7 @@ work_at locked run newest left st open_stage sees names can = work_is run.now ne
 work_at done run newest left st open_stage sees names can = absurd open_stage
 
 -- so its commit is what it sees once the statement took effect
-sees_after : (work : Work) (newest : Database) (left : List Line) (st : Statement) → IsBuilt st → work ≡ work_before newest st → first_refusal (statement_checks st work.seen ++ room_checks st work.seen) ≡ None
+sees_after : (work : Work) (newest : Database) (left : List Line) (st : Statement) → IsOfGrammar st → work ≡ work_before newest st → first_refusal (statement_checks st work.seen ++ room_checks st work.seen) ≡ None
     → Sees done (takes_effect st work) newest left
 sees_after work newest left st built is granted =
     let at_newest : first_refusal (statement_checks st newest ++ room_checks st newest) ≡ None = subst (λ (w : Work). first_refusal (statement_checks st w.seen ++ room_checks st w.seen) ≡ None) is granted in

@@ -5,7 +5,7 @@ ghost use Rattle.iq_base.specs.declared.nodes.SessionSpec.{SessionSpec};
 ghost use Rattle.iq_ast.specs.declared.statements.Statement.TheVariants as statements;
 ghost use Rattle.iq_history.specs.declared.entries.Entry.TheVariants as entries;
 ghost use Rattle.iq_model.specs.Statements.{first_refusal, statement_checks, answer};
-ghost use Rattle.iq_ast.specs.Built.{IsBuiltWrite, IsPlainSelect};
+ghost use Rattle.iq_ast.specs.Built.{IsWriteOfGrammar, IsPlainSelect};
 ghost use Rattle.iq_model.specs.Scripts.{IsRunnable, HasFewTuples};
 ghost use Rattle.iq_model.specs.History.{IsPossible};
 ghost use Rattle.iq_plex.specs.Kept.{IsReadyFor};
@@ -97,7 +97,7 @@ impl Plex {
     /// transaction, which has begun, sees them.
     pub fn check(&self, write: &Write) -> Option<Refusal>
         requires under_way { IsUnderWay self.now (statements.Write write.now) }
-        requires built { IsBuiltWrite write.now }
+        requires built { IsWriteOfGrammar write.now }
         requires few { HasFewTuples (statements.Write write.now) }
         ensures { OfSeen self.now (λ db. result ≡ first_refusal (statement_checks (statements.Write write.now) db)) }
     {
@@ -108,7 +108,7 @@ impl Plex {
     /// room or that memory is wanting, and changes nothing.
     pub fn write(&mut self, alloc: Global, s: u32, line: u32, write: &Write) -> Result<(), Refusal>
         requires granted { CanWriteLine (state_of self.old) s line (statements.Write write.now) }
-        requires built { IsBuiltWrite write.now }
+        requires built { IsWriteOfGrammar write.now }
         requires few { HasFewTuples (statements.Write write.now) }
         ensures ok { OnOk result (IsNext self.old (entries.Done s line) self.new) }
         ensures err { IfErr result (λ cause. OfSeen self.old (λ db. IsTableCause (statements.Write write.now) db cause)) }

@@ -2,7 +2,7 @@
 ghost use Rattle.std.specs.Prelude.{◌≡◌, ◌≤◌, ◌<◌, length, IfSome};
 ghost use Rattle.std.specs.Option.{option_copied};
 ghost use Rattle.iq_ast.specs.declared.statements.Statement.TheVariants as statements;
-ghost use Rattle.iq_ast.specs.Built.{IsBuiltWrite};
+ghost use Rattle.iq_ast.specs.Built.{IsWriteOfGrammar};
 ghost use Rattle.iq_model.specs.Scripts.{HasFewTuples};
 ghost use Rattle.iq_model.specs.Tables.{table_of};
 ghost use Rattle.iq_model.specs.Statements.{first_refusal, create_checks, insert_checks, write_checks};
@@ -18,7 +18,7 @@ const MOST_TABLES: usize = 64;
 
 /// The first refusal of what a write names and of its values. No row of the tables counts for it.
 pub fn check(tables: &[Stored], write: &Write) -> Option<Refusal>
-    requires built { IsBuiltWrite write.now }
+    requires built { IsWriteOfGrammar write.now }
     requires few { HasFewTuples (statements.Write write.now) }
     ensures { result ≡ first_refusal (write_checks write.now (bare tables.now)) }
 {

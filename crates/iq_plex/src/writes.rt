@@ -1,7 +1,7 @@
 //! The effect of a write on stored tables.
 ghost use Rattle.std.specs.Prelude.{◌≡◌, ◌≤◌, length, None, OnOk, OnErr, IfErr, IfOk};
 ghost use Rattle.iq_ast.specs.declared.statements.Statement.TheVariants as statements;
-ghost use Rattle.iq_ast.specs.Built.{IsBuiltWrite};
+ghost use Rattle.iq_ast.specs.Built.{IsWriteOfGrammar};
 ghost use Rattle.iq_model.specs.Scripts.{HasFewTuples};
 ghost use Rattle.iq_model.specs.Tables.{Database, Table, table_of, placed, with_rows, empty_table};
 ghost use Rattle.iq_model.specs.Statements.{write_checks, room_check, room_checks, first_bad_row, inserted, effect};
@@ -19,7 +19,7 @@ use std::alloc::Global;
 /// Writes the effect of a statement, of which the tests of what it names find nothing, into the tables; or answers what refuses
 /// it, the room of its table or want of memory, and leaves the tables standing as they stood.
 pub fn write(alloc: Global, tables: &mut Vec<Stored>, write: &Write) -> Result<(), Refusal>
-    requires built { IsBuiltWrite write.now }
+    requires built { IsWriteOfGrammar write.now }
     requires few { HasFewTuples (statements.Write write.now) }
     requires granted { Grants (write_checks write.now (bare tables.old.items)) }
     ensures ok { OnOk result (Leads (effect write.now) tables.old.items tables.new.items) }

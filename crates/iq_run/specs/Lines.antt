@@ -1,7 +1,7 @@
 -- What running one line does to the shared state.
 use Rattle.std.specs.Prelude.{◌≡◌, ℕ, List, [], ◌∷◌, ◌++◌, None}
 use Rattle.iq_ast.specs.declared.statements.Statement.{Statement}
-use Rattle.iq_ast.specs.Built.{IsBuilt}
+use Rattle.iq_ast.specs.Built.{IsOfGrammar}
 use Rattle.iq_model.specs.declared.scripts.Line.{Line}
 use Rattle.iq_model.specs.declared.scripts.Deed.TheVariants as deeds
 use Rattle.iq_model.specs.declared.replies.Reply.{Reply}
@@ -17,7 +17,7 @@ pub record IsUnder (p : PlexState) (standing : Standing) (stage : Stage) (number
   pub at : IsAt p standing stage (line ∷ rest)
   pub number_is : line.number ≡ number
   pub deed_is : line.deed ≡ deeds.Statement st
-  pub built : IsBuilt st
+  pub built : IsOfGrammar st
   pub meaning : HasMeaning st
   pub few : HasFewTuples st
 

@@ -7,7 +7,7 @@ use Rattle.iq_ast.specs.declared.statements.Statement.{Statement}
 use Rattle.iq_ast.specs.declared.statements.Statement.TheVariants as statements
 use Rattle.iq_ast.specs.declared.statements.Write.{Write}
 use Rattle.iq_ast.specs.declared.statements.Write.TheVariants as writes
-use Rattle.iq_ast.specs.Built.{IsPlain, AreItems, IsBuiltWrite, IsBuilt}
+use Rattle.iq_ast.specs.Built.{IsPlain, AreItems, IsWriteOfGrammar, IsOfGrammar}
 use Rattle.iq_model.specs.Statements.{HasWriteMeaning, IsColumnItem, HasListMeaning, HasMeaning}
 
 -- columns by their names
@@ -30,7 +30,7 @@ list_means (items.Sum name ∷ members) is = absurd is.0
 list_means (items.Min name ∷ members) is = absurd is.0
 list_means (items.Max name ∷ members) is = absurd is.0
 
-write_means : (write : Write) → IsBuiltWrite write → HasWriteMeaning write
+write_means : (write : Write) → IsWriteOfGrammar write → HasWriteMeaning write
 write_means (writes.CreateTable name schema) is = tt
 write_means (writes.DropTable name) is = absurd is
 write_means (writes.CreateIndex name kind table column second) is = absurd is
@@ -40,7 +40,7 @@ write_means (writes.Load table rows text) is = absurd is
 write_means (writes.Delete table cond) is = absurd is
 write_means (writes.Update table changes cond) is = absurd is
 
-pub statement_means : (st : Statement) → IsBuilt st → HasMeaning st
+pub statement_means : (st : Statement) → IsOfGrammar st → HasMeaning st
 statement_means (statements.Write write) is = write_means write is
 statement_means (statements.Select select) is = record {
   list = list_means select.items is.items;

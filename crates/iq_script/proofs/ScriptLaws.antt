@@ -9,7 +9,7 @@ use Rattle.iq_model.specs.declared.scripts.Deed.{Deed}
 use Rattle.iq_model.specs.declared.scripts.Deed.TheVariants.{Statement, Step}
 use Rattle.iq_model.specs.declared.scripts.Line.{Line}
 use Rattle.iq_model.specs.declared.scripts.Script.{Script}
-use Rattle.iq_model.specs.Scripts.{the_session, IsBuiltDeed, IsRunnableLine, Ascend, IsRunnable, HasFewDeedTuples, HasDeedMeaning}
+use Rattle.iq_model.specs.Scripts.{the_session, IsDeedOfGrammar, IsRunnableLine, Ascend, IsRunnable, HasFewDeedTuples, HasDeedMeaning}
 use Rattle.iq_script.proofs.Tuples.{few_tuples}
 use Rattle.iq_script.proofs.Meaning.{statement_means}
 use Rattle.iq_parse.specs.Grammar.{IsStatementOf, IsOff}
@@ -58,7 +58,7 @@ zip_good [] (l ∷ ls) h = absurd h
 zip_good (d ∷ ds) [] h = absurd h
 zip_good (d ∷ ds) (l ∷ ls) h = (deed_good d.text l.deed h.0.deed, zip_good ds ls h.1)
 
-deed_built : (text : List ℕ) (deed : Deed) → IsDeedOf text deed → IsBuiltDeed deed
+deed_built : (text : List ℕ) (deed : Deed) → IsDeedOf text deed → IsDeedOfGrammar deed
 deed_built text (Statement s) h = h.spells.built
 deed_built text (Step step) h = absurd h
 
