@@ -103,7 +103,10 @@ fn a_bad_leaf_that_is_not_touched_is_shared(rt: HostRuntime) -> Result<(), Fail>
         }
     );
     count_for(&mut disk, new)?;
-    assert_eq!(rt; maps(alloc, &mut disk, new)?.as_slice(), [12, 11, 10].as_slice());
+    assert_eq!(rt;
+        maps(alloc, &mut disk, new)?.as_slice(),
+        [12, 11, 10].as_slice()
+    );
     assert_eq!(rt; ends(&mut disk, HALF_BAD, 0), Ok((4, 7, 7)));
     let bad = MapFault::BadMap { block: 10 };
     assert_eq!(rt; ends(&mut disk, new, 252), Err(bad));
@@ -134,7 +137,13 @@ fn a_bad_leaf_is_told_before_want_of_space(rt: HostRuntime) -> Result<(), Fail> 
     // A page more goes into the bad leaf too.
     for spare in [1, 9] {
         let mut disk = half_bad(alloc)?;
-        let outcome = put(&mut disk, &mut Spares::new(11, 11 + spare), HALF_BAD, 253, 5);
+        let outcome = put(
+            &mut disk,
+            &mut Spares::new(11, 11 + spare),
+            HALF_BAD,
+            253,
+            5,
+        );
         assert_eq!(rt; outcome.err(), bad, "{spare} left");
     }
     Ok(())
