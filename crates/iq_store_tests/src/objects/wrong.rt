@@ -1,6 +1,6 @@
 //! Maps that aren't right.
 use super::*;
-use iq_block_map::{maps, read_page, read_raw_map};
+use iq_block_map::{RawMap, maps, read_page, read_raw_map};
 use iq_block_store::{BlockFault, MAP};
 
 /// The payload of a map whose first two numbers are these, below 256, and whose others are zero.
@@ -149,23 +149,33 @@ fn a_bad_leaf_is_told_before_want_of_space(rt: HostRuntime) -> Result<(), Fail> 
     Ok(())
 }
 
+/// Counts, and reads the level and the numbers of a map where there is such a block.
+fn raw_at<D: Device>(disk: &mut D, at: u32) -> Result<RawMap, BlockFault> {
+    match disk.count() {
+        Ok(count) if at < count => read_raw_map(disk, at),
+        _ => Err(BlockFault::BadHeader { block: 99 }),
+    }
+}
+
+/// Counts, and reads the page in a block where there is such: its first byte and its last.
+fn ends_at<D: Device>(disk: &mut D, at: u32) -> Result<(u8, u8), MapFault> {
+    let mut bytes = [0; 1008];
+    match disk.count() {
+        Ok(count) if at < count => read_page(disk, at, &mut bytes)?,
+        _ => return Err(NO_CALL),
+    }
+    Ok((bytes[0], bytes[1007]))
+}
+
 #[test]
 fn a_map_is_read_as_it_stands_in_its_block(rt: HostRuntime) -> Result<(), Fail> {
-    let alloc = rt.alloc();
-    let mut disk = half_bad(alloc)?;
-    match disk.count() {
-        Ok(count) if count > 11 => {
-            let raw = read_raw_map(&mut disk, 10)?;
-            assert_eq!(rt; (raw.level, raw.numbers[0], raw.numbers[251]), (1, 3, 0));
-            let none = read_raw_map(&mut disk, 4).err();
-            assert_eq!(rt; none, Some(BlockFault::BadHeader { block: 4 }));
-            let mut bytes = [0; 1008];
-            read_page(&mut disk, 4, &mut bytes)?;
-            assert_eq!(rt; (bytes[0], bytes[1007]), (7, 7));
-            let bad = read_page(&mut disk, 9, &mut bytes).err();
-            assert_eq!(rt; bad, Some(MapFault::BadMap { block: 9 }));
-        }
-        _ => return Err("no such blocks".into()),
-    }
+    let mut disk = half_bad(rt.alloc())?;
+    let raw = raw_at(&mut disk, 10)?;
+    assert_eq!(rt; (raw.level, raw.numbers[0], raw.numbers[251]), (1, 3, 0));
+    let none = raw_at(&mut disk, 4).err();
+    assert_eq!(rt; none, Some(BlockFault::BadHeader { block: 4 }));
+    assert_eq!(rt; ends_at(&mut disk, 4), Ok((7, 7)));
+    let bad = Err(MapFault::BadMap { block: 9 });
+    assert_eq!(rt; ends_at(&mut disk, 9), bad);
     Ok(())
 }
