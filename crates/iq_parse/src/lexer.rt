@@ -55,16 +55,19 @@ fn digits_len(text: &[u8]) -> usize
     text.len()
 }
 
-/// A word in lower case, if it has at most 30 bytes.
+/// The longest name, in bytes.
+const MOST_NAME: usize = 30;
+
+/// A word in lower case, if it is no longer than a name.
 fn lowered(word: &[u8]) -> Option<Name>
     requires { IsAscii word.now }
     ensures some { IsSome result ↔ (length word.now ≤ 30) }
     ensures value { IfSome result (λ n. n ≡ map to_ascii_lowercase word.now) }
 {
-    if word.len() > Name::MOST {
+    if word.len() > MOST_NAME {
         return None;
     }
-    let mut bytes = [0u8; 30];
+    let mut bytes = [0u8; MOST_NAME];
     let front = &mut bytes[..word.len()];
     front.copy_from_slice(word);
     front.make_ascii_lowercase();
