@@ -72,7 +72,7 @@ fn run<S: PageSink>(
     table: &mut Table,
     sink: &mut S,
     all: &[Row],
-) -> Result<Vec<Row>, PageFault> {
+) -> Result<Vec<Listed<Value>>, PageFault> {
     assert!(rt; table.schema.columns.len() == 3);
     if table.slots == 0 {
         table.create(2, sink)?;
@@ -89,16 +89,17 @@ fn run<S: PageSink>(
     table.read_columns(alloc, 2, sink, &columns)
 }
 
-fn assert_rows(
+fn assert_columns(
     rt: &impl Abort,
-    read: &[Row],
+    read: &[Listed<Value>],
     columns: [usize; 3],
     count: usize,
 ) -> Result<(), Fail> {
-    assert_eq!(rt; read.len(), count);
-    for (i, row) in read.iter().enumerate() {
-        for (k, c) in columns.iter().enumerate() {
-            assert_eq!(rt; row.get(k), Some(&value(i, *c)?), "row {i}, column {c}");
+    assert_eq!(rt; read.len(), columns.len());
+    for (column, c) in read.iter().zip(columns.iter()) {
+        assert_eq!(rt; column.len(), count);
+        for (i, read) in column.as_slice().iter().enumerate() {
+            assert_eq!(rt; *read, value(i, *c)?, "row {i}, column {c}");
         }
     }
     Ok(())
@@ -110,7 +111,7 @@ fn rows_come_back_across_pages(rt: HostRuntime) -> Result<(), Fail> {
     let all = rows(rt.alloc(), 0, 450)?;
     let mut store = MemoryPages::new(rt.alloc(), Vec::new(rt.alloc()));
     let read = run(&rt, rt.alloc(), &mut table, &mut store, &all)?;
-    assert_rows(&rt, &read, [2, 0, 1], 450)?;
+    assert_columns(&rt, &read, [2, 0, 1], 450)?;
     assert!(rt; table.schema.columns.len() == 3);
     let column = table.read_column(rt.alloc(), 2, &mut store, 1)?;
     assert_eq!(rt; column.len(), 450);
@@ -138,9 +139,9 @@ fn each_page_is_touched_once_and_a_failed_call_keeps_the_rows(rt: HostRuntime) -
                 let columns = [2, 0, 1];
                 assert!(rt; table.schema.columns.len() == 3);
                 let read = table.read_columns(rt.alloc(), 2, &mut store, &columns)?;
-                assert_rows(&rt, &read, [2, 0, 1], before)?;
+                assert_columns(&rt, &read, [2, 0, 1], before)?;
                 let read = run(&rt, rt.alloc(), &mut table, &mut store, &all)?;
-                assert_rows(&rt, &read, [2, 0, 1], 450)?;
+                assert_columns(&rt, &read, [2, 0, 1], 450)?;
             }
             Ok(_) => assert_eq!(rt; call, CALLS + 1),
             Err(fault) => panic!(rt; "{fault:?}"),

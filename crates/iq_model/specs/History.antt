@@ -20,7 +20,7 @@ use Rattle.iq_model.specs.declared.replies.Said.{Said}
 use Rattle.iq_model.specs.declared.replies.Said.TheVariants as said
 use Rattle.iq_model.specs.Tables.{Database}
 use Rattle.iq_model.specs.Statements.{Check, first_refusal, statement_checks, room_checks, tables_after, created_by, answer}
-use Rattle.iq_model.specs.State.{Stage, fresh, begun, locked, done, Work, Run, Standing, idle, lost, running, Desk, State, database_of, position_of, not_held, locks, lock_checks, committed, changed_at, with_desk, moved_to, with_commit, start}
+use Rattle.iq_model.specs.State.{Stage, fresh, begun, locked, done, Work, Run, Standing, idle, lost, running, SessionState, State, database_of, position_of, not_held, locks, lock_checks, committed, changed_at, with_session_state, moved_to, with_commit, start}
 
 -- WHAT AN ENTRY ASKS
 
@@ -71,17 +71,17 @@ abbrev pub IsCause : State → ℕ → Statement → Refusal → Run → Type 0
 IsCause s place statement cause run = (cause ≡ refusals.NoMemory) ⊎ (first_refusal (checks_of s place run statement) ≡ Some cause)
 
 -- before the line's transaction begins, want of memory alone
-abbrev pub IsRefusal : State → ℕ → Desk → Refusal → Statement → Type 0
-IsRefusal s place desk cause statement =
-    ((desk.stage ≡ fresh) × (desk.standing ≡ idle) × (cause ≡ refusals.NoMemory))
-    ⊎ (IsOpen desk.stage × IsRunning desk.standing (IsCause s place statement cause))
+abbrev pub IsRefusal : State → ℕ → SessionState → Refusal → Statement → Type 0
+IsRefusal s place session_state cause statement =
+    ((session_state.stage ≡ fresh) × (session_state.standing ≡ idle) × (cause ≡ refusals.NoMemory))
+    ⊎ (IsOpen session_state.stage × IsRunning session_state.standing (IsCause s place statement cause))
 
 -- a transaction of the session's node begins
-pub record CanBegin (s : State) (c : ℕ) (desk : Desk) (statement : Statement) : Type 0 where
+pub record CanBegin (s : State) (c : ℕ) (session_state : SessionState) (statement : Statement) : Type 0 where
   pub tables : IsOnTables statement
-  pub stage : desk.stage ≡ fresh
-  pub none : desk.standing ≡ idle
-  pub snapshot : c ≡ position_of s desk.node
+  pub stage : session_state.stage ≡ fresh
+  pub none : session_state.standing ≡ idle
+  pub snapshot : c ≡ position_of s session_state.node
 
 -- the names that a write locks, where no test up to there refuses it and one of them isn't held yet
 pub record CanLock (s : State) (place : ℕ) (names : List Name) (statement : Statement) (run : Run) : Type 0 where
@@ -96,21 +96,21 @@ pub record CanTake (statement : Statement) (run : Run) : Type 0 where
 
 -- THE TABLE OF ENTRIES: where each is possible. Those that no line of a run makes are possible nowhere.
 
-abbrev pub DeskIs : State → ℕ → ℕ → (Desk → Statement → Type 0) → Type 0
-DeskIs s place l P = IsSomeAnd (slice_get s.desks place) (λ desk. LineIs desk.left l (P desk))
+abbrev pub SessionStateIs : State → ℕ → ℕ → (SessionState → Statement → Type 0) → Type 0
+SessionStateIs s place l P = IsSomeAnd (slice_get s.session_states place) (λ session_state. LineIs session_state.left l (P session_state))
 
 abbrev pub IsPossible : State → Entry → Type 0
-IsPossible s (entries.Begin place l c) = DeskIs s place l (CanBegin s c)
-IsPossible s (entries.Lock place l names) = DeskIs s place l (λ desk statement.
-    (desk.stage ≡ begun) × IsRunning desk.standing (CanLock s place names statement))
-IsPossible s (entries.Done place l) = DeskIs s place l (λ desk statement.
-    IsOpen desk.stage × IsRunning desk.standing (CanTake statement))
-IsPossible s (entries.Refused (Some place) l cause) = DeskIs s place l (λ desk. IsRefusal s place desk cause)
+IsPossible s (entries.Begin place l c) = SessionStateIs s place l (CanBegin s c)
+IsPossible s (entries.Lock place l names) = SessionStateIs s place l (λ session_state statement.
+    (session_state.stage ≡ begun) × IsRunning session_state.standing (CanLock s place names statement))
+IsPossible s (entries.Done place l) = SessionStateIs s place l (λ session_state statement.
+    IsOpen session_state.stage × IsRunning session_state.standing (CanTake statement))
+IsPossible s (entries.Refused (Some place) l cause) = SessionStateIs s place l (λ session_state. IsRefusal s place session_state cause)
 IsPossible s (entries.Refused None l cause) = ⊥
-IsPossible s (entries.Commit place l c) = DeskIs s place l (λ desk statement.
-    (desk.stage ≡ done) × (c ≡ s.latest + 1) × IsRunning desk.standing (λ run. run.now.held ≢ []))
-IsPossible s (entries.End place l) = DeskIs s place l (λ desk statement.
-    (desk.stage ≡ done) × IsRunning desk.standing (λ run. run.now.held ≡ []))
+IsPossible s (entries.Commit place l c) = SessionStateIs s place l (λ session_state statement.
+    (session_state.stage ≡ done) × (c ≡ s.latest + 1) × IsRunning session_state.standing (λ run. run.now.held ≢ []))
+IsPossible s (entries.End place l) = SessionStateIs s place l (λ session_state statement.
+    (session_state.stage ≡ done) × IsRunning session_state.standing (λ run. run.now.held ≡ []))
 IsPossible s (entries.Rollback place l) = ⊥
 IsPossible s (entries.Halt place l c before after) = ⊥
 IsPossible s (entries.Savepoint place l name) = ⊥
@@ -129,8 +129,8 @@ IsPossible s (entries.Versions l) = ⊥
 -- THE TABLE OF ENTRIES: what each changes
 
 -- the session goes on with its next line, without a transaction
-abbrev pub ended : Desk → Desk
-ended desk = record desk { standing = idle; stage = fresh; left = drop 1 desk.left }
+abbrev pub ended : SessionState → SessionState
+ended session_state = record session_state { standing = idle; stage = fresh; left = drop 1 session_state.left }
 
 abbrev pub begin_work : Database → Work
 begin_work db = record { seen = db; held = []; created = [] }
@@ -138,8 +138,8 @@ begin_work db = record { seen = db; held = []; created = [] }
 abbrev pub begin_run : ℕ → Database → Run
 begin_run c db = record { snapshot = c; start = begin_work db; now = begin_work db }
 
-abbrev pub begins : ℕ → Database → Desk → Desk
-begins c db desk = record desk { standing = running (begin_run c db); stage = begun }
+abbrev pub begins : ℕ → Database → SessionState → SessionState
+begins c db session_state = record session_state { standing = running (begin_run c db); stage = begun }
 
 -- a running transaction with its work changed
 abbrev pub worked : (Work → Work) → Standing → Standing
@@ -150,8 +150,8 @@ worked f (running run) = running (record run { now = f run.now })
 abbrev pub holds_more : List Name → Work → Work
 holds_more names work = record work { held = work.held ++ names }
 
-abbrev pub locks_more : List Name → Desk → Desk
-locks_more names desk = record desk { standing = worked (holds_more names) desk.standing; stage = locked }
+abbrev pub locks_more : List Name → SessionState → SessionState
+locks_more names session_state = record session_state { standing = worked (holds_more names) session_state.standing; stage = locked }
 
 -- the names that a statement creates beside those that it locks
 abbrev pub creates : Statement → List Name
@@ -176,8 +176,8 @@ abbrev pub line_takes : List Line → Work → Work
 line_takes [] work = work
 line_takes (line ∷ lines) work = deed_takes line.deed work
 
-abbrev pub takes : Desk → Desk
-takes desk = record desk { standing = worked (line_takes desk.left) desk.standing; stage = done }
+abbrev pub takes : SessionState → SessionState
+takes session_state = record session_state { standing = worked (line_takes session_state.left) session_state.standing; stage = done }
 
 -- the commit of a session's transaction
 abbrev pub commit_run : Standing → State → State
@@ -185,18 +185,18 @@ commit_run idle s = s
 commit_run lost s = s
 commit_run (running run) s = with_commit (committed run.now s.newest) (run.now.held ++ run.now.created) s
 
-abbrev pub desk_commits : Option Desk → State → State
-desk_commits None s = s
-desk_commits (Some desk) s = record (commit_run desk.standing s) { nodes = changed_at desk.node (moved_to (s.latest + 1)) s.nodes }
+abbrev pub session_state_commits : Option SessionState → State → State
+session_state_commits None s = s
+session_state_commits (Some session_state) s = record (commit_run session_state.standing s) { nodes = changed_at session_state.node (moved_to (s.latest + 1)) s.nodes }
 
 abbrev pub change : State → Entry → State
-change s (entries.Begin place l c) = with_desk place (begins c (database_of s c)) s
-change s (entries.Lock place l names) = with_desk place (locks_more names) s
-change s (entries.Done place l) = with_desk place takes s
-change s (entries.Refused (Some place) l cause) = with_desk place ended s
+change s (entries.Begin place l c) = with_session_state place (begins c (database_of s c)) s
+change s (entries.Lock place l names) = with_session_state place (locks_more names) s
+change s (entries.Done place l) = with_session_state place takes s
+change s (entries.Refused (Some place) l cause) = with_session_state place ended s
 change s (entries.Refused None l cause) = s
-change s (entries.Commit place l c) = with_desk place ended (desk_commits (slice_get s.desks place) s)
-change s (entries.End place l) = with_desk place ended s
+change s (entries.Commit place l c) = with_session_state place ended (session_state_commits (slice_get s.session_states place) s)
+change s (entries.End place l) = with_session_state place ended s
 change s (entries.Rollback place l) = s
 change s (entries.Halt place l c before after) = s
 change s (entries.Savepoint place l name) = s
@@ -224,14 +224,14 @@ IsLegal s [] = Unit {0}
 IsLegal s (e ∷ es) = IsPossible s e × IsLegal (change s e) es
 
 -- no session has a line left
-abbrev pub NoneLeft : List Desk → Type 0
+abbrev pub NoneLeft : List SessionState → Type 0
 NoneLeft [] = Unit {0}
-NoneLeft (desk ∷ desks) = (desk.left ≡ []) × NoneLeft desks
+NoneLeft (session_state ∷ session_states) = (session_state.left ≡ []) × NoneLeft session_states
 
 -- a legal history of all lines of a script, from these tables
 pub record IsWhole (script : Script) (opening : Database) (es : List Entry) : Type 0 where
   pub legal : IsLegal (start script opening) es
-  pub whole : NoneLeft (replay (start script opening) es).desks
+  pub whole : NoneLeft (replay (start script opening) es).session_states
 
 -- REPLIES
 
@@ -270,15 +270,15 @@ run_reply idle left c = []
 run_reply lost left c = []
 run_reply (running run) left c = line_reply left c run.now.seen
 
-abbrev pub desk_reply : Option Desk → Option ℕ → List Reply
-desk_reply None c = []
-desk_reply (Some desk) c = run_reply desk.standing desk.left c
+abbrev pub session_state_reply : Option SessionState → Option ℕ → List Reply
+session_state_reply None c = []
+session_state_reply (Some session_state) c = run_reply session_state.standing session_state.left c
 
 -- the reply that an entry gives: the one of the line that it ends
 abbrev pub entry_replies : State → Entry → List Reply
 entry_replies s (entries.Refused place l cause) = record { line = l; said = said.Refused cause } ∷ []
-entry_replies s (entries.Commit place l c) = desk_reply (slice_get s.desks place) (Some c)
-entry_replies s (entries.End place l) = desk_reply (slice_get s.desks place) None
+entry_replies s (entries.Commit place l c) = session_state_reply (slice_get s.session_states place) (Some c)
+entry_replies s (entries.End place l) = session_state_reply (slice_get s.session_states place) None
 entry_replies s (entries.Begin place l c) = []
 entry_replies s (entries.Lock place l names) = []
 entry_replies s (entries.Done place l) = []

@@ -43,7 +43,7 @@ pub data Standing : Type 0 where
   running : Run → Standing
 
 -- a session: its node's place, its transaction, its line under way, and the lines from that one on
-pub record Desk : Type 0 where
+pub record SessionState : Type 0 where
   pub node : ℕ
   pub standing : Standing
   pub stage : Stage
@@ -67,7 +67,7 @@ pub record State : Type 0 where
   pub older : List Database
   pub wrote : List Written
   pub nodes : List NodeState
-  pub desks : List Desk
+  pub session_states : List SessionState
 
 -- LOOK-UPS
 
@@ -110,20 +110,20 @@ held_by lost = []
 held_by (running run) = run.now.held
 
 -- The first session from this place on, but the one that asks, whose running transaction holds the name.
-abbrev pub holder_from : ℕ → List Desk → ℕ → Name → Option ℕ
+abbrev pub holder_from : ℕ → List SessionState → ℕ → Name → Option ℕ
 holder_from place [] asks name = None
-holder_from place (desk ∷ desks) asks name =
-    if nat_eq place asks then holder_from (place + 1) desks asks name
-    else (if is_held (held_by desk.standing) name then Some place else holder_from (place + 1) desks asks name)
+holder_from place (session_state ∷ session_states) asks name =
+    if nat_eq place asks then holder_from (place + 1) session_states asks name
+    else (if is_held (held_by session_state.standing) name then Some place else holder_from (place + 1) session_states asks name)
 
 -- the refusal of a name that another running transaction holds
 abbrev pub locked_refusal : Name → Option ℕ → Option Refusal
 locked_refusal name None = None
 locked_refusal name (Some holder) = Some (refusals.Locked name holder)
 
-abbrev pub first_locked : List Desk → ℕ → List Name → Option Refusal
-first_locked desks asks [] = None
-first_locked desks asks (name ∷ names) = option_or (locked_refusal name (holder_from 0 desks asks name)) (first_locked desks asks names)
+abbrev pub first_locked : List SessionState → ℕ → List Name → Option Refusal
+first_locked session_states asks [] = None
+first_locked session_states asks (name ∷ names) = option_or (locked_refusal name (holder_from 0 session_states asks name)) (first_locked session_states asks names)
 
 -- the refusal of a name whose latest commit is past the snapshot
 abbrev pub later_refusal : Name → ℕ → ℕ → Option Refusal
@@ -148,7 +148,7 @@ locks statements.Sync = []
 -- The tests of the names that a statement of this session's transaction would lock: held by another, written since.
 abbrev pub lock_checks : State → ℕ → Run → Statement → List Check
 lock_checks s asks run statement =
-    record { order = 8; found = first_locked s.desks asks (not_held run.now.held (locks statement)) }
+    record { order = 8; found = first_locked s.session_states asks (not_held run.now.held (locks statement)) }
     ∷ record { order = 9; found = first_later s.wrote run.snapshot (not_held run.now.held (locks statement)) }
     ∷ []
 
@@ -177,8 +177,8 @@ changed_at n f [] = []
 changed_at zero f (x ∷ xs) = f x ∷ xs
 changed_at (suc n) f (x ∷ xs) = x ∷ changed_at n f xs
 
-abbrev pub with_desk : ℕ → (Desk → Desk) → State → State
-with_desk s f state = record state { desks = changed_at s f state.desks }
+abbrev pub with_session_state : ℕ → (SessionState → SessionState) → State → State
+with_session_state s f state = record state { session_states = changed_at s f state.session_states }
 
 abbrev pub moved_to : ℕ → NodeState → NodeState
 moved_to c node = record node { position = c }
@@ -206,12 +206,12 @@ is_of place line = is_place place line.session
     is_place place None = false
     is_place place (Some s) = nat_eq s place
 
-abbrev pub desk_start : ℕ → List Line → SessionSpec → Desk
-desk_start place lines spec = record { node = spec.node; standing = idle; stage = fresh; left = filter (is_of place) lines }
+abbrev pub session_state_start : ℕ → List Line → SessionSpec → SessionState
+session_state_start place lines spec = record { node = spec.node; standing = idle; stage = fresh; left = filter (is_of place) lines }
 
-abbrev pub desks_from : ℕ → List Line → List SessionSpec → List Desk
-desks_from place lines [] = []
-desks_from place lines (spec ∷ specs) = desk_start place lines spec ∷ desks_from (place + 1) lines specs
+abbrev pub session_states_from : ℕ → List Line → List SessionSpec → List SessionState
+session_states_from place lines [] = []
+session_states_from place lines (spec ∷ specs) = session_state_start place lines spec ∷ session_states_from (place + 1) lines specs
 
 -- the state before the first entry, from any tables
 abbrev pub start : Script → Database → State
@@ -222,5 +222,5 @@ start script opening =
       older = [];
       wrote = [];
       nodes = map node_start script.nodes;
-      desks = desks_from 0 script.lines script.sessions;
+      session_states = session_states_from 0 script.lines script.sessions;
     }

@@ -82,7 +82,7 @@ runs-full line write name cause c db deed are granted found =
     first older wrote position rest =
         let s : State = one c db older wrote position (within run locked (line_of line.number line.session (statements.Write write) ∷ rest)) in
         first_refusal-append (checks_to_lock s 0 run (statements.Write write)) (room_checks (statements.Write write) db)
-        ∙ ap (λ (o : Option Refusal). option_or o (first_refusal (room_checks (statements.Write write) db))) (first_refusal-append (statement_checks (statements.Write write) db) (lock_checks s 0 run (statements.Write write)) ∙ ap (λ (o : Option Refusal). option_or o (first_refusal (lock_checks s 0 run (statements.Write write)))) granted ∙ ap (λ (names : List Name). option_or (first_locked s.desks 0 names) (option_or (first_later wrote c names) None)) (ap (not_held (name ∷ [])) are ∙ not_held-one name))
+        ∙ ap (λ (o : Option Refusal). option_or o (first_refusal (room_checks (statements.Write write) db))) (first_refusal-append (statement_checks (statements.Write write) db) (lock_checks s 0 run (statements.Write write)) ∙ ap (λ (o : Option Refusal). option_or o (first_refusal (lock_checks s 0 run (statements.Write write)))) granted ∙ ap (λ (names : List Name). option_or (first_locked s.session_states 0 names) (option_or (first_later wrote c names) None)) (ap (not_held (name ∷ [])) are ∙ not_held-one name))
         ∙ found
 
 -- a write that takes effect
@@ -175,7 +175,7 @@ pub IsWhole-leads : (script : Script) (opening : Database) (es : List Entry) (rs
 IsWhole-leads script opening es rs c db leads =
     record {
       legal = leads.legal;
-      whole = subst (λ (s : State). NoneLeft s.desks) (sym leads.leaves.is) (refl, tt);
+      whole = subst (λ (s : State). NoneLeft s.session_states) (sym leads.leaves.is) (refl, tt);
     }
 
 -- the line at a place, and the lines after it

@@ -15,7 +15,7 @@ use Rattle.iq_model.specs.declared.replies.Reply.{Reply}
 use Rattle.iq_model.specs.declared.replies.Said.TheVariants as said
 use Rattle.iq_model.specs.Tables.{Database, same_name}
 use Rattle.iq_model.specs.Statements.{Check, first_refusal, statement_checks}
-use Rattle.iq_model.specs.State.{Stage, begun, locked, done, Run, running, Desk, Written, State, commit_of, latest_of, first_locked, first_later, not_held, locks, lock_checks, committed, written_at}
+use Rattle.iq_model.specs.State.{Stage, begun, locked, done, Run, running, SessionState, Written, State, commit_of, latest_of, first_locked, first_later, not_held, locks, lock_checks, committed, written_at}
 use Rattle.iq_model.specs.History.{IsOnTables, IsOpen, checks_to_lock, checks_of, CanTake, IsPossible, begin_work, begin_run, takes_effect, change, replay, IsLegal, statement_said, entry_replies, replies}
 use Rattle.iq_plain.specs.OneSession.{one, between, NoneLater, IsBetween, LeadsTo}
 use Rattle.iq_plain.specs.Plain.{HadMemory}
@@ -44,9 +44,9 @@ latest_of-le c name (w ∷ ws) none = beside (same_name w.name name) none.0 (lat
     beside false here further = further
 
 -- a session alone finds no name locked by another
-pub first_locked-alone : (desk : Desk) (names : List Name) → first_locked (desk ∷ []) 0 names ≡ None
-first_locked-alone desk [] = refl
-first_locked-alone desk (name ∷ names) = first_locked-alone desk names
+pub first_locked-alone : (session_state : SessionState) (names : List Name) → first_locked (session_state ∷ []) 0 names ≡ None
+first_locked-alone session_state [] = refl
+first_locked-alone session_state (name ∷ names) = first_locked-alone session_state names
 
 -- where no name was written later, none refuses
 pub first_later-none : (c : ℕ) (ws : List Written) (names : List Name) → NoneLater c ws → first_later ws c names ≡ None
@@ -89,15 +89,15 @@ abbrev pub line_of : ℕ → Option ℕ → Statement → Line
 line_of n session statement = record { number = n; session = session; deed = deeds.Statement statement }
 
 -- the session with a transaction under way, at this stage of its line
-abbrev pub within : Run → Stage → List Line → Desk
+abbrev pub within : Run → Stage → List Line → SessionState
 within run stage lines = record { node = 0; standing = running run; stage = stage; left = lines }
 
 module _ (n : ℕ) (session : Option ℕ) (statement : Statement) (rest : List Line) (c : ℕ) (db : Database) (older : List Database) (wrote : List Written) (position : ℕ) (es : List Entry) (rs : List Reply) (c' : ℕ) (db' : Database) where
   abbrev lines : List Line
   lines = line_of n session statement ∷ rest
 
-  abbrev at : Desk → State
-  at desk = one c db older wrote position desk
+  abbrev at : SessionState → State
+  at session_state = one c db older wrote position session_state
 
   -- a statement on tables begins a transaction
   pub by_begin : IsOnTables statement → LeadsTo (at (within (begin_run c db) begun lines)) es rs c' db' rest → LeadsTo (at (between lines)) (entries.Begin 0 n c ∷ es) rs c' db' rest

@@ -7,7 +7,7 @@ use Rattle.iq_base.specs.declared.refusals.Refusal.{Refusal}
 use Rattle.iq_base.specs.declared.refusals.Refusal.TheVariants as refusals
 use Rattle.iq_ast.specs.declared.statements.Statement.{Statement}
 use Rattle.iq_model.specs.Statements.{Check, statement_checks, room_checks, first_refusal}
-use Rattle.iq_model.specs.State.{Run, Desk, State, Written, latest_of, locked_refusal, holder_from, first_locked, later_refusal, first_later, lock_checks, not_held, locks}
+use Rattle.iq_model.specs.State.{Run, SessionState, State, Written, latest_of, locked_refusal, holder_from, first_locked, later_refusal, first_later, lock_checks, not_held, locks}
 use Rattle.iq_model.specs.History.{checks_to_lock, checks_of}
 use Rattle.iq_model.proofs.Found.{IsOfFound, AllFound, AllFound-append, first_is, found-statement, found-rooms}
 
@@ -33,10 +33,10 @@ locked_is : (name : Name) (holder : Option ℕ) → IfSome (locked_refusal name 
 locked_is name None = tt
 locked_is name (Some holder) = λ is. cc
 
-first_locked_is : (desks : List Desk) (asks : ℕ) (names : List Name) → IfSome (first_locked desks asks names) IsNoWant
-first_locked_is desks asks [] = tt
-first_locked_is desks asks (name ∷ names) =
-    either (locked_refusal name (holder_from 0 desks asks name)) (first_locked desks asks names) (locked_is name (holder_from 0 desks asks name)) (first_locked_is desks asks names)
+first_locked_is : (session_states : List SessionState) (asks : ℕ) (names : List Name) → IfSome (first_locked session_states asks names) IsNoWant
+first_locked_is session_states asks [] = tt
+first_locked_is session_states asks (name ∷ names) =
+    either (locked_refusal name (holder_from 0 session_states asks name)) (first_locked session_states asks names) (locked_is name (holder_from 0 session_states asks name)) (first_locked_is session_states asks names)
 
 later_is : (name : Name) (commit : ℕ) (b : Bool) → IfSome (cond b (Some (refusals.Later name commit)) None) IsNoWant
 later_is name commit true = λ is. cc
@@ -49,7 +49,7 @@ first_later_is wrote snapshot (name ∷ names) =
 
 locks_are : (s : State) (place : ℕ) (run : Run) (st : Statement) → AllFound IsNoWant (lock_checks s place run st)
 locks_are s place run st =
-    (first_locked_is s.desks place (not_held run.now.held (locks st)), (first_later_is s.wrote run.snapshot (not_held run.now.held (locks st)), tt))
+    (first_locked_is s.session_states place (not_held run.now.held (locks st)), (first_later_is s.wrote run.snapshot (not_held run.now.held (locks st)), tt))
 
 -- so a refusal that the tests find is none for want of memory
 pub had_memory : (s : State) (place : ℕ) (run : Run) (st : Statement) (cause : Refusal) → first_refusal (checks_of s place run st) ≡ Some cause → cause ≢ refusals.NoMemory

@@ -10,7 +10,7 @@ use Rattle.iq_model.specs.declared.scripts.Line.{Line}
 use Rattle.iq_plain.specs.declared.runs.LineRun.{LineRun}
 use Rattle.iq_model.specs.Tables.{Database}
 use Rattle.iq_model.specs.Statements.{first_refusal, statement_checks}
-use Rattle.iq_model.specs.State.{fresh, idle, Desk, NodeState, Written, State}
+use Rattle.iq_model.specs.State.{fresh, idle, SessionState, NodeState, Written, State}
 use Rattle.iq_model.specs.History.{IsOnTables, IsLegal, replay, replies}
 use Rattle.iq_plain.specs.Plain.{HadMemory}
 
@@ -19,19 +19,19 @@ abbrev pub coordinator : ℕ → NodeState
 coordinator position = record { kind = node_kinds.Coordinator; position = position }
 
 -- a state of one coordinator and one session
-abbrev pub one : ℕ → Database → List Database → List Written → ℕ → Desk → State
-one latest newest older wrote position desk =
+abbrev pub one : ℕ → Database → List Database → List Written → ℕ → SessionState → State
+one latest newest older wrote position session_state =
     record {
       latest = latest;
       newest = newest;
       older = older;
       wrote = wrote;
       nodes = coordinator position ∷ [];
-      desks = desk ∷ [];
+      session_states = session_state ∷ [];
     }
 
 -- the session without a transaction, before these lines
-abbrev pub between : List Line → Desk
+abbrev pub between : List Line → SessionState
 between lines = record { node = 0; standing = idle; stage = fresh; left = lines }
 
 -- no name was written by a commit after this one

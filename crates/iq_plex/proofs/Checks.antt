@@ -7,7 +7,7 @@ use Rattle.iq_base.specs.Shorts.{Name}
 use Rattle.iq_ast.specs.declared.statements.Statement.{Statement}
 use Rattle.iq_model.specs.Tables.{Database, same_name}
 use Rattle.iq_model.specs.Statements.{Check, first_refusal}
-use Rattle.iq_model.specs.State.{Desk, Run, Written, NodeState, commit_of, latest_of, first_locked, first_later, lock_checks, not_held, locks}
+use Rattle.iq_model.specs.State.{SessionState, Run, Written, NodeState, commit_of, latest_of, first_locked, first_later, lock_checks, not_held, locks}
 use Rattle.iq_plex.specs.Sound.{only_state, IsWrittenBy}
 
 option_or-assoc : {X : Type 0} (a b c : Option X) → option_or (option_or a b) c ≡ option_or a (option_or b c)
@@ -19,9 +19,9 @@ first_refusal-append [] ys = refl
 first_refusal-append (x ∷ xs) ys = ap (option_or x.found) (first_refusal-append xs ys) ∙ sym (option_or-assoc x.found (first_refusal xs) (first_refusal ys))
 
 -- no other session holds a name
-pub first_locked-one : (desk : Desk) (names : List Name) → first_locked (desk ∷ []) 0 names ≡ None
-first_locked-one desk [] = refl
-first_locked-one desk (name ∷ names) = first_locked-one desk names
+pub first_locked-one : (session_state : SessionState) (names : List Name) → first_locked (session_state ∷ []) 0 names ≡ None
+first_locked-one session_state [] = refl
+first_locked-one session_state (name ∷ names) = first_locked-one session_state names
 
 -- a name's latest commit is one of those that were written
 latest_of-within : (latest : ℕ) (name : Name) (wrote : List Written) → AllByRecursion (IsWrittenBy latest) wrote → latest_of name wrote ≤ latest
@@ -40,7 +40,7 @@ first_later-one latest wrote (name ∷ names) all =
     rw off (first_later-one latest wrote names all)
 
 -- so the tests of locks find nothing
-pub lock_checks-one : (latest : ℕ) (newest : Database) (older : List Database) (wrote : List Written) (node : NodeState) (desk : Desk) (run : Run) (st : Statement)
-    → AllByRecursion (IsWrittenBy latest) wrote → run.snapshot ≡ latest → first_refusal (lock_checks (only_state latest newest older wrote node desk) 0 run st) ≡ None
-lock_checks-one latest newest older wrote node desk run st all at =
-    rw (first_locked-one desk (not_held run.now.held (locks st)), at, first_later-one latest wrote (not_held run.now.held (locks st)) all) refl
+pub lock_checks-one : (latest : ℕ) (newest : Database) (older : List Database) (wrote : List Written) (node : NodeState) (session_state : SessionState) (run : Run) (st : Statement)
+    → AllByRecursion (IsWrittenBy latest) wrote → run.snapshot ≡ latest → first_refusal (lock_checks (only_state latest newest older wrote node session_state) 0 run st) ≡ None
+lock_checks-one latest newest older wrote node session_state run st all at =
+    rw (first_locked-one session_state (not_held run.now.held (locks st)), at, first_later-one latest wrote (not_held run.now.held (locks st)) all) refl

@@ -10,23 +10,23 @@ use Rattle.iq_model.specs.declared.scripts.Line.{Line}
 use Rattle.iq_model.specs.Scripts.{IsRunnableLine}
 use Rattle.iq_model.specs.Tables.{Database}
 use Rattle.iq_model.specs.Statements.{first_refusal, statement_checks, room_checks}
-use Rattle.iq_model.specs.State.{Stage, fresh, begun, locked, done, Run, Standing, idle, lost, running, NodeState, Written, State, Desk, committed, lock_checks, written_at, moved_to}
+use Rattle.iq_model.specs.State.{Stage, fresh, begun, locked, done, Run, Standing, idle, lost, running, NodeState, Written, State, SessionState, committed, lock_checks, written_at, moved_to}
 use Rattle.iq_model.specs.History.{IsRunning, IsCause, IsRefusal, IsPossible, change, checks_to_lock, checks_of}
-use Rattle.iq_plex.specs.Plex.{desk_of, MayRefuse, MayRefuseAt, CanRefuseLine}
+use Rattle.iq_plex.specs.Plex.{session_state_of, MayRefuse, MayRefuseAt, CanRefuseLine}
 use Rattle.iq_plex.specs.Sound.{only_state, seen_by, used, Sees, IsStanding, IsWrittenBy, IsSound, started}
 use Rattle.iq_plex.proofs.Checks.{first_refusal-append, lock_checks-one}
-use Rattle.iq_plex.proofs.Steps.{OnDesk, on_desk, Facts, facts_of, shape_of, through, room_after, built_after}
-use Rattle.iq_plex.proofs.Under.{desk_is}
+use Rattle.iq_plex.proofs.Steps.{OnSessionState, on_session_state, Facts, facts_of, shape_of, through, room_after, built_after}
+use Rattle.iq_plex.proofs.Under.{session_state_is}
 
 -- the lines that are left once the one under way has ended
-rest_is : (place l : ℕ) (left : List Line) (P : Statement → Type 0) (on : OnDesk place l left P) → on.rest ≡ drop 1 left
+rest_is : (place l : ℕ) (left : List Line) (P : Statement → Type 0) (on : OnSessionState place l left P) → on.rest ≡ drop 1 left
 rest_is place l left P on = sym (ap (drop 1) on.left_is)
 
-room_rest : (room room' place l : ℕ) (stage : Stage) (left : List Line) (P : Statement → Type 0) (on : OnDesk place l left P) → 5 * length left ≤ room + used stage → room ≤ room' + 1 → 5 * length (drop 1 left) ≤ room' + 0
+room_rest : (room room' place l : ℕ) (stage : Stage) (left : List Line) (P : Statement → Type 0) (on : OnSessionState place l left P) → 5 * length left ≤ room + used stage → room ≤ room' + 1 → 5 * length (drop 1 left) ≤ room' + 0
 room_rest room room' place l stage left P on has more =
     subst (λ (ls : List Line). 5 * length ls ≤ room' + 0) (rest_is place l left P on) (room_after room room' stage left on.rest on.line on.left_is has more)
 
-built_rest : (place l : ℕ) (left : List Line) (P : Statement → Type 0) (on : OnDesk place l left P) → AllByRecursion IsRunnableLine left → AllByRecursion IsRunnableLine (drop 1 left)
+built_rest : (place l : ℕ) (left : List Line) (P : Statement → Type 0) (on : OnSessionState place l left P) → AllByRecursion IsRunnableLine left → AllByRecursion IsRunnableLine (drop 1 left)
 built_rest place l left P on all = subst (AllByRecursion IsRunnableLine) (rest_is place l left P on) (built_after left on.rest on.line on.left_is all)
 
 -- REFUSED
@@ -64,39 +64,39 @@ cause_of s place run st cause done free (inr (inr room)) = absurd room
 
 -- a refusal by the tables as the transaction sees them is one of the history's
 refuse_possible_only : (latest count room : ℕ) (newest : Database) (older : List Database) (wrote : List Written) (node : NodeState) (standing : Standing) (stage : Stage) (left : List Line) (place l : ℕ) (cause : Refusal)
-    → Facts latest count room newest wrote node standing stage left → OnDesk place l left (MayRefuseAt cause (desk_of standing stage left))
-    → IsPossible (only_state latest newest older wrote node (desk_of standing stage left)) (entries.Refused (Some place) l cause)
+    → Facts latest count room newest wrote node standing stage left → OnSessionState place l left (MayRefuseAt cause (session_state_of standing stage left))
+    → IsPossible (only_state latest newest older wrote node (session_state_of standing stage left)) (entries.Refused (Some place) l cause)
 refuse_possible_only latest count room newest older wrote node standing stage left place l cause facts on =
-    desk_is latest newest older wrote node standing stage left place l (λ desk. IsRefusal (only_state latest newest older wrote node (desk_of standing stage left)) place desk cause)
-    (MayRefuseAt cause (desk_of standing stage left)) on
+    session_state_is latest newest older wrote node standing stage left place l (λ session_state. IsRefusal (only_state latest newest older wrote node (session_state_of standing stage left)) place session_state cause)
+    (MayRefuseAt cause (session_state_of standing stage left)) on
     (λ st h. as_cause latest newest older wrote node standing stage left place cause st on.first facts.by_then facts.stands h)
   where
-    running_cause : (latest : ℕ) (newest : Database) (older : List Database) (wrote : List Written) (node : NodeState) (desk : Desk) (standing : Standing) (stage : Stage) (left : List Line) (place : ℕ) (cause : Refusal) (st : Statement)
+    running_cause : (latest : ℕ) (newest : Database) (older : List Database) (wrote : List Written) (node : NodeState) (session_state : SessionState) (standing : Standing) (stage : Stage) (left : List Line) (place : ℕ) (cause : Refusal) (st : Statement)
         → place ≡ 0 → AllByRecursion (IsWrittenBy latest) wrote → IsStanding standing stage latest newest left → IsRunning standing (λ run. MayRefuse stage st run.now.seen cause)
-        → IsRunning standing (IsCause (only_state latest newest older wrote node desk) place st cause)
-    running_cause latest newest older wrote node desk idle stage left place cause st first by_then stands h = h
-    running_cause latest newest older wrote node desk lost stage left place cause st first by_then stands h = h
-    running_cause latest newest older wrote node desk (running run) stage left place cause st first by_then stands h =
-        let free : first_refusal (lock_checks (only_state latest newest older wrote node desk) place run st) ≡ None =
-        subst (λ (p : ℕ). first_refusal (lock_checks (only_state latest newest older wrote node desk) p run st) ≡ None) (sym first)
-        (lock_checks-one latest newest older wrote node desk run st by_then stands.0) in
-        cause_of (only_state latest newest older wrote node desk) place run st cause stage free h
+        → IsRunning standing (IsCause (only_state latest newest older wrote node session_state) place st cause)
+    running_cause latest newest older wrote node session_state idle stage left place cause st first by_then stands h = h
+    running_cause latest newest older wrote node session_state lost stage left place cause st first by_then stands h = h
+    running_cause latest newest older wrote node session_state (running run) stage left place cause st first by_then stands h =
+        let free : first_refusal (lock_checks (only_state latest newest older wrote node session_state) place run st) ≡ None =
+        subst (λ (p : ℕ). first_refusal (lock_checks (only_state latest newest older wrote node session_state) p run st) ≡ None) (sym first)
+        (lock_checks-one latest newest older wrote node session_state run st by_then stands.0) in
+        cause_of (only_state latest newest older wrote node session_state) place run st cause stage free h
 
     as_cause : (latest : ℕ) (newest : Database) (older : List Database) (wrote : List Written) (node : NodeState) (standing : Standing) (stage : Stage) (left : List Line) (place : ℕ) (cause : Refusal) (st : Statement)
-        → place ≡ 0 → AllByRecursion (IsWrittenBy latest) wrote → IsStanding standing stage latest newest left → MayRefuseAt cause (desk_of standing stage left) st
-        → IsRefusal (only_state latest newest older wrote node (desk_of standing stage left)) place (desk_of standing stage left) cause st
+        → place ≡ 0 → AllByRecursion (IsWrittenBy latest) wrote → IsStanding standing stage latest newest left → MayRefuseAt cause (session_state_of standing stage left) st
+        → IsRefusal (only_state latest newest older wrote node (session_state_of standing stage left)) place (session_state_of standing stage left) cause st
     as_cause latest newest older wrote node standing stage left place cause st first by_then stands (inl memory) = inl memory
     as_cause latest newest older wrote node standing stage left place cause st first by_then stands (inr h) =
-        inr (h.0, running_cause latest newest older wrote node (desk_of standing stage left) standing stage left place cause st first by_then stands h.1)
+        inr (h.0, running_cause latest newest older wrote node (session_state_of standing stage left) standing stage left place cause st first by_then stands h.1)
 
 pub refuse_possible : (s : State) (latest count room place l : ℕ) (cause : Refusal) (seen : Database) → IsSound s latest count room seen → CanRefuseLine s place l cause → IsPossible s (entries.Refused (Some place) l cause)
 refuse_possible s latest count room place l cause seen sound can =
     through s (shape_of sound) sound.shape (λ (s : State). CanRefuseLine s place l cause) (λ (s : State). IsPossible s (entries.Refused (Some place) l cause)) can
     (λ here. refuse_possible_only latest count room sound.newest sound.older sound.wrote sound.node sound.standing sound.stage sound.left place l cause (facts_of s latest count room seen sound)
-    (on_desk latest sound.newest sound.older sound.wrote sound.node sound.standing sound.stage sound.left place l (MayRefuseAt cause) here))
+    (on_session_state latest sound.newest sound.older sound.wrote sound.node sound.standing sound.stage sound.left place l (MayRefuseAt cause) here))
 
 -- a line that is refused has changed nothing of what its session sees
-refused_sees : (standing : Standing) (stage : Stage) (latest : ℕ) (newest : Database) (left : List Line) (cause : Refusal) (st : Statement) → IsStanding standing stage latest newest left → MayRefuseAt cause (desk_of standing stage left) st
+refused_sees : (standing : Standing) (stage : Stage) (latest : ℕ) (newest : Database) (left : List Line) (cause : Refusal) (st : Statement) → IsStanding standing stage latest newest left → MayRefuseAt cause (session_state_of standing stage left) st
     → seen_by standing newest ≡ newest
 refused_sees idle stage latest newest left cause st stands may = refl
 refused_sees lost stage latest newest left cause st stands may = refl
@@ -107,10 +107,10 @@ refused_sees (running run) locked latest newest left cause st stands (inr h) = s
 refused_sees (running run) done latest newest left cause st stands (inr h) = absurd h.0
 
 refuse_only : (latest count room room' : ℕ) (newest : Database) (older : List Database) (wrote : List Written) (node : NodeState) (standing : Standing) (stage : Stage) (left : List Line) (place l : ℕ) (cause : Refusal)
-    → Facts latest count room newest wrote node standing stage left → room ≤ room' + 1 → OnDesk place l left (MayRefuseAt cause (desk_of standing stage left))
-    → IsSound (change (only_state latest newest older wrote node (desk_of standing stage left)) (entries.Refused (Some place) l cause)) latest (count + 1) room' (seen_by standing newest)
+    → Facts latest count room newest wrote node standing stage left → room ≤ room' + 1 → OnSessionState place l left (MayRefuseAt cause (session_state_of standing stage left))
+    → IsSound (change (only_state latest newest older wrote node (session_state_of standing stage left)) (entries.Refused (Some place) l cause)) latest (count + 1) room' (seen_by standing newest)
 refuse_only latest count room room' newest older wrote node standing stage left place l cause facts more on =
-    let own = MayRefuseAt cause (desk_of standing stage left) in
+    let own = MayRefuseAt cause (session_state_of standing stage left) in
     record {
       newest = newest;
       older = older;
@@ -135,7 +135,7 @@ refuse_sound s latest count room room' place l cause seen sound can more =
     through s (shape_of sound) sound.shape (λ (s : State). CanRefuseLine s place l cause) (λ (s : State). IsSound (change s (entries.Refused (Some place) l cause)) latest (count + 1) room' seen) can
     (λ here. subst (λ (db : Database). IsSound (change (shape_of sound) (entries.Refused (Some place) l cause)) latest (count + 1) room' db) (sym sound.sees)
     (refuse_only latest count room room' sound.newest sound.older sound.wrote sound.node sound.standing sound.stage sound.left place l cause (facts_of s latest count room seen sound) more
-    (on_desk latest sound.newest sound.older sound.wrote sound.node sound.standing sound.stage sound.left place l (MayRefuseAt cause) here)))
+    (on_session_state latest sound.newest sound.older sound.wrote sound.node sound.standing sound.stage sound.left place l (MayRefuseAt cause) here)))
 
 -- COMMIT
 
@@ -144,17 +144,17 @@ written_by_then latest [] [] all = tt
 written_by_then latest [] (w ∷ wrote) all = (let h = all.0 in omega arith, written_by_then latest [] wrote all.1)
 written_by_then latest (name ∷ names) wrote all = (omega arith, written_by_then latest names wrote all)
 
--- what the history asks of a commit, on its one desk
-abbrev pub AsksCommit : ℕ → ℕ → Desk → Statement → Type 0
-AsksCommit latest c desk statement = (desk.stage ≡ done) × (c ≡ latest + 1) × IsRunning desk.standing (λ run. run.now.held ≢ [])
+-- what the history asks of a commit, on the state of its one session
+abbrev pub AsksCommit : ℕ → ℕ → SessionState → Statement → Type 0
+AsksCommit latest c session_state statement = (session_state.stage ≡ done) × (c ≡ latest + 1) × IsRunning session_state.standing (λ run. run.now.held ≢ [])
 
 commit_only : (latest count room room' : ℕ) (newest : Database) (older : List Database) (wrote : List Written) (node : NodeState) (standing : Standing) (stage : Stage) (left : List Line) (place l c : ℕ)
-    → Facts latest count room newest wrote node standing stage left → room ≤ room' + 1 → OnDesk place l left (AsksCommit latest c (desk_of standing stage left))
-    → IsSound (change (only_state latest newest older wrote node (desk_of standing stage left)) (entries.Commit place l c)) (latest + 1) (count + 1) room' (seen_by standing newest)
+    → Facts latest count room newest wrote node standing stage left → room ≤ room' + 1 → OnSessionState place l left (AsksCommit latest c (session_state_of standing stage left))
+    → IsSound (change (only_state latest newest older wrote node (session_state_of standing stage left)) (entries.Commit place l c)) (latest + 1) (count + 1) room' (seen_by standing newest)
 commit_only latest count room room' newest older wrote node idle stage left place l c facts more on = absurd on.holds.2
 commit_only latest count room room' newest older wrote node lost stage left place l c facts more on = absurd on.holds.2
 commit_only latest count room room' newest older wrote node (running run) stage left place l c facts more on =
-    let own = AsksCommit latest c (desk_of (running run) stage left) in
+    let own = AsksCommit latest c (session_state_of (running run) stage left) in
     let sees : Sees done run.now newest left = subst (λ (g : Stage). Sees g run.now newest left) on.holds.0 facts.stands.1 in
     record {
       newest = committed run.now newest;
@@ -180,20 +180,20 @@ commit_sound s latest count room room' place l c seen sound possible more =
     through s (shape_of sound) sound.shape (λ (s : State). IsPossible s (entries.Commit place l c)) (λ (s : State). IsSound (change s (entries.Commit place l c)) (latest + 1) (count + 1) room' seen) possible
     (λ here. subst (λ (db : Database). IsSound (change (shape_of sound) (entries.Commit place l c)) (latest + 1) (count + 1) room' db) (sym sound.sees)
     (commit_only latest count room room' sound.newest sound.older sound.wrote sound.node sound.standing sound.stage sound.left place l c (facts_of s latest count room seen sound) more
-    (on_desk latest sound.newest sound.older sound.wrote sound.node sound.standing sound.stage sound.left place l (AsksCommit latest c) here)))
+    (on_session_state latest sound.newest sound.older sound.wrote sound.node sound.standing sound.stage sound.left place l (AsksCommit latest c) here)))
 
 -- END
 
-abbrev pub AsksEnd : Desk → Statement → Type 0
-AsksEnd desk statement = (desk.stage ≡ done) × IsRunning desk.standing (λ run. run.now.held ≡ [])
+abbrev pub AsksEnd : SessionState → Statement → Type 0
+AsksEnd session_state statement = (session_state.stage ≡ done) × IsRunning session_state.standing (λ run. run.now.held ≡ [])
 
 end_only : (latest count room room' : ℕ) (newest : Database) (older : List Database) (wrote : List Written) (node : NodeState) (standing : Standing) (stage : Stage) (left : List Line) (place l : ℕ)
-    → Facts latest count room newest wrote node standing stage left → room ≤ room' + 1 → OnDesk place l left (AsksEnd (desk_of standing stage left))
-    → IsSound (change (only_state latest newest older wrote node (desk_of standing stage left)) (entries.End place l)) latest (count + 1) room' (seen_by standing newest)
+    → Facts latest count room newest wrote node standing stage left → room ≤ room' + 1 → OnSessionState place l left (AsksEnd (session_state_of standing stage left))
+    → IsSound (change (only_state latest newest older wrote node (session_state_of standing stage left)) (entries.End place l)) latest (count + 1) room' (seen_by standing newest)
 end_only latest count room room' newest older wrote node idle stage left place l facts more on = absurd on.holds.1
 end_only latest count room room' newest older wrote node lost stage left place l facts more on = absurd on.holds.1
 end_only latest count room room' newest older wrote node (running run) stage left place l facts more on =
-    let own = AsksEnd (desk_of (running run) stage left) in
+    let own = AsksEnd (session_state_of (running run) stage left) in
     let sees : Sees done run.now newest left = subst (λ (g : Stage). Sees g run.now newest left) on.holds.0 facts.stands.1 in
     record {
       newest = newest;
@@ -219,4 +219,4 @@ end_sound s latest count room room' place l seen sound possible more =
     through s (shape_of sound) sound.shape (λ (s : State). IsPossible s (entries.End place l)) (λ (s : State). IsSound (change s (entries.End place l)) latest (count + 1) room' seen) possible
     (λ here. subst (λ (db : Database). IsSound (change (shape_of sound) (entries.End place l)) latest (count + 1) room' db) (sym sound.sees)
     (end_only latest count room room' sound.newest sound.older sound.wrote sound.node sound.standing sound.stage sound.left place l (facts_of s latest count room seen sound) more
-    (on_desk latest sound.newest sound.older sound.wrote sound.node sound.standing sound.stage sound.left place l AsksEnd here)))
+    (on_session_state latest sound.newest sound.older sound.wrote sound.node sound.standing sound.stage sound.left place l AsksEnd here)))

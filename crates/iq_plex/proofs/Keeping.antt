@@ -15,21 +15,21 @@ use Rattle.iq_model.specs.Scripts.{IsRunnable}
 use Rattle.iq_model.specs.declared.scripts.Script.{Script}
 use Rattle.iq_model.specs.Tables.{Database}
 use Rattle.iq_model.specs.Statements.{Check, first_refusal, statement_checks, room_checks, tables_after}
-use Rattle.iq_model.specs.State.{State, Desk, Run, Standing, idle, lost, running, Stage, NodeState, Written, start, not_held, locks}
+use Rattle.iq_model.specs.State.{State, SessionState, Run, Standing, idle, lost, running, Stage, NodeState, Written, start, not_held, locks}
 use Rattle.iq_model.specs.declared.scripts.Line.{Line}
 use Rattle.iq_model.specs.declared.scripts.Deed.{Deed}
 use Rattle.iq_model.specs.declared.scripts.Deed.TheVariants as deeds
-use Rattle.iq_model.specs.History.{IsPossible, IsLegal, DeskIs, LineIs, DeedIs, IsRunning, CanBegin, change, replay}
+use Rattle.iq_model.specs.History.{IsPossible, IsLegal, SessionStateIs, LineIs, DeedIs, IsRunning, CanBegin, change, replay}
 use Rattle.iq_model.proofs.Replay.{replay-snoc, IsLegal-snoc, replies-snoc}
 use Rattle.iq_plex.specs.declared.stored.Stored.{Stored}
-use Rattle.iq_plex.specs.Plex.{Grants, Refuses, IsOpened, CanBeginLine, AsksBegin, replies_of, IsNext, CanLockLine, CanRefuseLine, CanTakeLine, CanWriteLine, MayWrite, AsksWrite, HoldsLine, AsksHeld, AsksTake, IsGranted, desk_of, OfSeen}
+use Rattle.iq_plex.specs.Plex.{Grants, Refuses, IsOpened, CanBeginLine, AsksBegin, replies_of, IsNext, CanLockLine, CanRefuseLine, CanTakeLine, CanWriteLine, MayWrite, AsksWrite, HoldsLine, AsksHeld, AsksTake, IsGranted, session_state_of, OfSeen}
 use Rattle.iq_plex.specs.Sound.{IsSound, only_state, seen_by}
 use Rattle.iq_plex.specs.Stored.{StandFor}
 use Rattle.iq_plex.specs.Kept.{IsKept, IsReadyFor}
 use Rattle.iq_plex.proofs.Checks.{first_refusal-append}
-use Rattle.iq_plex.proofs.Steps.{begin_sound, position_of-only, OnDesk, on_desk, shape_of, through}
-use Rattle.iq_plex.proofs.Under.{desk_is, lock_possible, lock_sound, done_possible, done_sound}
-use Rattle.iq_plex.proofs.Start.{start_sound, start_desks}
+use Rattle.iq_plex.proofs.Steps.{begin_sound, position_of-only, OnSessionState, on_session_state, shape_of, through}
+use Rattle.iq_plex.proofs.Under.{session_state_is, lock_possible, lock_sound, done_possible, done_sound}
+use Rattle.iq_plex.proofs.Start.{start_sound, start_session_states}
 use Rattle.iq_plex.proofs.Ends.{refuse_possible, refuse_sound, commit_sound, end_sound}
 
 -- the state that the entries leave
@@ -73,17 +73,17 @@ pub begin_at : (script : Script) (old : HistoryState) (tables : List Stored) (la
 begin_at script old tables latest s l kept = ap (entries.Begin s l) (sym (latest_is (left_by script old.entries) latest (length old.entries) old.room kept.seen kept.sound))
 
 begin_possible_only : (latest : ℕ) (newest : Database) (older : List Database) (wrote : List Written) (node : NodeState) (standing : Standing) (stage : Stage) (left : List Line) (place l : ℕ)
-    → node.kind ≡ Coordinator → OnDesk place l left (AsksBegin (desk_of standing stage left)) → IsPossible (only_state latest newest older wrote node (desk_of standing stage left)) (entries.Begin place l latest)
+    → node.kind ≡ Coordinator → OnSessionState place l left (AsksBegin (session_state_of standing stage left)) → IsPossible (only_state latest newest older wrote node (session_state_of standing stage left)) (entries.Begin place l latest)
 begin_possible_only latest newest older wrote node standing stage left place l is_home on =
-    desk_is latest newest older wrote node standing stage left place l (CanBegin (only_state latest newest older wrote node (desk_of standing stage left)) latest) (AsksBegin (desk_of standing stage left)) on
-    (λ st h. record { tables = h.0; stage = h.1; none = h.2; snapshot = sym (position_of-only latest newest older wrote node (desk_of standing stage left) is_home) })
+    session_state_is latest newest older wrote node standing stage left place l (CanBegin (only_state latest newest older wrote node (session_state_of standing stage left)) latest) (AsksBegin (session_state_of standing stage left)) on
+    (λ st h. record { tables = h.0; stage = h.1; none = h.2; snapshot = sym (position_of-only latest newest older wrote node (session_state_of standing stage left) is_home) })
 
 -- where the line under way may begin, it begins at the latest commit
 pub begin_possible : (s : State) (latest count room place l : ℕ) (seen : Database) → IsSound s latest count room seen → CanBeginLine s place l → IsPossible s (entries.Begin place l latest)
 begin_possible s latest count room place l seen sound can =
     through s (shape_of sound) sound.shape (λ (s : State). CanBeginLine s place l) (λ (s : State). IsPossible s (entries.Begin place l latest)) can
     (λ here. begin_possible_only latest sound.newest sound.older sound.wrote sound.node sound.standing sound.stage sound.left place l sound.coordinator
-    (on_desk latest sound.newest sound.older sound.wrote sound.node sound.standing sound.stage sound.left place l AsksBegin here))
+    (on_session_state latest sound.newest sound.older sound.wrote sound.node sound.standing sound.stage sound.left place l AsksBegin here))
 
 pub kept_begin : (script : Script) (old new : HistoryState) (tables : List Stored) (latest s l : ℕ) → IsKept script old tables latest
     → CanBeginLine (left_by script old.entries) s l → IsPushed old (entries.Begin s l latest) new → IsKept script new tables latest
@@ -136,27 +136,27 @@ pub commit_fits : (script : Script) (old : HistoryState) (tables : List Stored) 
 commit_fits script old tables latest kept = let few = kept.sound.few in let fits = kept.fits in omega arith
 
 -- the one session is the first
-pub first_place : (s : State) (latest count room place l : ℕ) (seen : Database) (P : Desk → Statement → Type 0) → IsSound s latest count room seen → DeskIs s place l P → place ≡ 0
+pub first_place : (s : State) (latest count room place l : ℕ) (seen : Database) (P : SessionState → Statement → Type 0) → IsSound s latest count room seen → SessionStateIs s place l P → place ≡ 0
 first_place s latest count room place l seen P sound h =
-    through s (shape_of sound) sound.shape (λ (s : State). DeskIs s place l P) (λ (s : State). place ≡ 0) h
-    (λ here. (on_desk latest sound.newest sound.older sound.wrote sound.node sound.standing sound.stage sound.left place l P here).first)
+    through s (shape_of sound) sound.shape (λ (s : State). SessionStateIs s place l P) (λ (s : State). place ≡ 0) h
+    (λ here. (on_session_state latest sound.newest sound.older sound.wrote sound.node sound.standing sound.stage sound.left place l P here).first)
 
 -- what the running transaction sees is what the state's session sees
-pub seen_at : (s : State) (latest count room : ℕ) (seen : Database) (run : Run) (stage : Stage) (left : List Line) → IsSound s latest count room seen → s.desks ≡ desk_of (running run) stage left ∷ [] → seen ≡ run.now.seen
+pub seen_at : (s : State) (latest count room : ℕ) (seen : Database) (run : Run) (stage : Stage) (left : List Line) → IsSound s latest count room seen → s.session_states ≡ session_state_of (running run) stage left ∷ [] → seen ≡ run.now.seen
 seen_at s latest count room seen run stage left sound at =
-    let both : desk_of sound.standing sound.stage sound.left ∷ [] ≡ desk_of (running run) stage left ∷ [] = sym (ap (λ (x : State). x.desks) sound.shape) ∙ at in
-    let one : desk_of sound.standing sound.stage sound.left ≡ desk_of (running run) stage left = cc in
-    let standing : sound.standing ≡ running run = ap (λ (d : Desk). d.standing) one in
+    let both : session_state_of sound.standing sound.stage sound.left ∷ [] ≡ session_state_of (running run) stage left ∷ [] = sym (ap (λ (x : State). x.session_states) sound.shape) ∙ at in
+    let one : session_state_of sound.standing sound.stage sound.left ≡ session_state_of (running run) stage left = cc in
+    let standing : sound.standing ≡ running run = ap (λ (d : SessionState). d.standing) one in
     sound.sees ∙ ap (λ (x : Standing). seen_by x sound.newest) standing
 
 -- a statement whose names are held takes effect where nothing refuses it over what its session sees
 take_only : (latest : ℕ) (newest : Database) (older : List Database) (wrote : List Written) (node : NodeState) (standing : Standing) (stage : Stage) (left : List Line) (place l : ℕ) (st : Statement)
-    → IsGranted st (seen_by standing newest) → OnDesk place l left (AsksHeld st (desk_of standing stage left))
-    → CanTakeLine (only_state latest newest older wrote node (desk_of standing stage left)) place l st
+    → IsGranted st (seen_by standing newest) → OnSessionState place l left (AsksHeld st (session_state_of standing stage left))
+    → CanTakeLine (only_state latest newest older wrote node (session_state_of standing stage left)) place l st
 take_only latest newest older wrote node idle stage left place l st granted on = absurd on.holds.2
 take_only latest newest older wrote node lost stage left place l st granted on = absurd on.holds.2
 take_only latest newest older wrote node (running run) stage left place l st granted on =
-    desk_is latest newest older wrote node (running run) stage left place l (AsksTake st) (AsksHeld st (desk_of (running run) stage left)) on
+    session_state_is latest newest older wrote node (running run) stage left place l (AsksTake st) (AsksHeld st (session_state_of (running run) stage left)) on
     (λ statement h. (
       h.0,
       h.1,
@@ -170,23 +170,23 @@ pub take_of_holds : (s : State) (latest count room place l : ℕ) (st : Statemen
 take_of_holds s latest count room place l st seen sound holds granted =
     through s (shape_of sound) sound.shape (λ (s : State). HoldsLine s place l st) (λ (s : State). CanTakeLine s place l st) holds
     (λ here. take_only latest sound.newest sound.older sound.wrote sound.node sound.standing sound.stage sound.left place l st (subst (IsGranted st) sound.sees granted)
-    (on_desk latest sound.newest sound.older sound.wrote sound.node sound.standing sound.stage sound.left place l (AsksHeld st) here))
+    (on_session_state latest sound.newest sound.older sound.wrote sound.node sound.standing sound.stage sound.left place l (AsksHeld st) here))
 
 -- what holds of the line under way in other words
-desk_map : (s : State) (place l : ℕ) (P Q : Desk → Statement → Type 0) → ((desk : Desk) (st : Statement) → P desk st → Q desk st) → DeskIs s place l P → DeskIs s place l Q
-desk_map s place l P Q f h = at_desk (slice_get s.desks place) h
+session_state_map : (s : State) (place l : ℕ) (P Q : SessionState → Statement → Type 0) → ((session_state : SessionState) (st : Statement) → P session_state st → Q session_state st) → SessionStateIs s place l P → SessionStateIs s place l Q
+session_state_map s place l P Q f h = at_session_state (slice_get s.session_states place) h
   where
-    at_deed : (desk : Desk) (d : Deed) → DeedIs d (P desk) → DeedIs d (Q desk)
-    at_deed desk (deeds.Statement st) h = f desk st h
-    at_deed desk (deeds.Step step) h = h
+    at_deed : (session_state : SessionState) (d : Deed) → DeedIs d (P session_state) → DeedIs d (Q session_state)
+    at_deed session_state (deeds.Statement st) h = f session_state st h
+    at_deed session_state (deeds.Step step) h = h
 
-    at_line : (desk : Desk) (lines : List Line) → LineIs lines l (P desk) → LineIs lines l (Q desk)
-    at_line desk [] h = h
-    at_line desk (line ∷ lines) h = (h.0, at_deed desk line.deed h.1)
+    at_line : (session_state : SessionState) (lines : List Line) → LineIs lines l (P session_state) → LineIs lines l (Q session_state)
+    at_line session_state [] h = h
+    at_line session_state (line ∷ lines) h = (h.0, at_deed session_state line.deed h.1)
 
-    at_desk : (o : Option Desk) → IsSomeAnd o (λ desk. LineIs desk.left l (P desk)) → IsSomeAnd o (λ desk. LineIs desk.left l (Q desk))
-    at_desk None h = h
-    at_desk (Some desk) h = at_line desk desk.left h
+    at_session_state : (o : Option SessionState) → IsSomeAnd o (λ session_state. LineIs session_state.left l (P session_state)) → IsSomeAnd o (λ session_state. LineIs session_state.left l (Q session_state))
+    at_session_state None h = h
+    at_session_state (Some session_state) h = at_line session_state session_state.left h
 
 running_map : (standing : Standing) (P Q : Run → Type 0) → ((run : Run) → P run → Q run) → IsRunning standing P → IsRunning standing Q
 running_map idle P Q f h = h
@@ -196,10 +196,10 @@ running_map (running run) P Q f h = f run h
 -- a write that is granted is of a line that holds its names
 pub holds_of_write : (s : State) (place l : ℕ) (st : Statement) → CanWriteLine s place l st → HoldsLine s place l st
 holds_of_write s place l st can =
-    desk_map s place l (AsksWrite st) (AsksHeld st)
-    (λ desk statement h. (h.0, h.1, running_map desk.standing (MayWrite statement) (λ run. not_held run.now.held (locks statement) ≡ []) (λ run may. may.0) h.2)) can
+    session_state_map s place l (AsksWrite st) (AsksHeld st)
+    (λ session_state statement h. (h.0, h.1, running_map session_state.standing (MayWrite statement) (λ run. not_held run.now.held (locks statement) ≡ []) (λ run may. may.0) h.2)) can
 
-granted_only : (newest : Database) (standing : Standing) (stage : Stage) (left : List Line) (place l : ℕ) (st : Statement) → OnDesk place l left (AsksWrite st (desk_of standing stage left))
+granted_only : (newest : Database) (standing : Standing) (stage : Stage) (left : List Line) (place l : ℕ) (st : Statement) → OnSessionState place l left (AsksWrite st (session_state_of standing stage left))
     → Grants (statement_checks st (seen_by standing newest))
 granted_only newest idle stage left place l st on = absurd on.holds.2
 granted_only newest lost stage left place l st on = absurd on.holds.2
@@ -213,7 +213,7 @@ write_granted script history tables latest place l st kept can =
     through (left_by script history.entries) (shape_of sound) sound.shape (λ (s : State). CanWriteLine s place l st) (λ (s : State). Grants (statement_checks st kept.seen)) can
     (λ here. subst (λ (db : Database). Grants (statement_checks st db)) (sym sound.sees)
     (granted_only sound.newest sound.standing sound.stage sound.left place l st
-    (on_desk latest sound.newest sound.older sound.wrote sound.node sound.standing sound.stage sound.left place l (AsksWrite st) here)))
+    (on_session_state latest sound.newest sound.older sound.wrote sound.node sound.standing sound.stage sound.left place l (AsksWrite st) here)))
 
 -- the tests of two lists
 pub both_granted : (xs ys : List Check) → Grants xs → Grants ys → Grants (xs ++ ys)
@@ -227,7 +227,7 @@ then_refuses xs ys cause first (inr found) = inr (first_refusal-append xs ys ∙
 pub of_seen : (script : Script) (history : HistoryState) (tables : List Stored) (latest : ℕ) (P : Database → Type 0) → IsKept script history tables latest
     → ((db : Database) → StandFor tables db → P db) → OfSeen (record { script = script; opening = []; entries = history.entries }) P
 of_seen script history tables latest P kept h run stage left at =
-    subst P (seen_at (left_by script history.entries) latest (length history.entries) history.room kept.seen run stage left kept.sound at.desks_are) (h kept.seen kept.tables_stand)
+    subst P (seen_at (left_by script history.entries) latest (length history.entries) history.room kept.seen run stage left kept.sound at.session_states_are) (h kept.seen kept.tables_stand)
 
 pub kept_write : (script : Script) (old new : HistoryState) (tables tables' : List Stored) (latest s l : ℕ) (st : Statement) (kept : IsKept script old tables latest)
     → HoldsLine (left_by script old.entries) s l st → IsPushed old (entries.Done s l) new → IsGranted st kept.seen → StandFor tables' (tables_after st kept.seen) → IsKept script new tables' latest
@@ -236,7 +236,7 @@ kept_write script old new tables tables' latest s l st kept holds pushed granted
     (take_of_holds (left_by script old.entries) latest (length old.entries) old.room s l st kept.seen kept.sound holds granted) pushed stand
 
 -- the session that a refused line names is the one there is
-pub session_placed : (script : Script) (history : HistoryState) (tables : List Stored) (latest place l : ℕ) (P : Desk → Statement → Type 0) → IsKept script history tables latest → DeskIs (left_by script history.entries) place l P
+pub session_placed : (script : Script) (history : HistoryState) (tables : List Stored) (latest place l : ℕ) (P : SessionState → Statement → Type 0) → IsKept script history tables latest → SessionStateIs (left_by script history.entries) place l P
     → place < length history.sessions
 session_placed script history tables latest place l P kept h =
     let first = first_place (left_by script history.entries) latest (length history.entries) history.room place l kept.seen P kept.sound h in
@@ -261,5 +261,5 @@ opened script es none runnable = record {
   same_script = refl;
   same_opening = refl;
   no_entries = none;
-  all_left = record { desks_are = ap (λ (xs : List Entry). (left_by script xs).desks) none ∙ start_desks script [] runnable };
+  all_left = record { session_states_are = ap (λ (xs : List Entry). (left_by script xs).session_states) none ∙ start_session_states script [] runnable };
 }

@@ -6,6 +6,7 @@ use Rattle.std.specs.Option.{option_or}
 use Rattle.std.proofs.Math.ListN.{set}
 use Rattle.std.proofs.lemmas.Option.{get_or_from_slice_get}
 use Rattle.std.proofs.lemmas.Bool.Decides.{nat_tests}
+use Rattle.std.proofs.lemmas.List.{same_lists, get_or-map, get_or_default, length-map}
 use Rattle.iq_base.specs.Shorts.{Name}
 use Rattle.iq_base.specs.declared.values.Value.{Value}
 use Rattle.iq_base.specs.declared.schemas.Column.{Column}
@@ -18,13 +19,14 @@ use Rattle.iq_ast.specs.declared.statements.Item.TheVariants as items
 use Rattle.iq_ast.specs.declared.statements.Select.{Select}
 use Rattle.iq_ast.specs.declared.statements.Statement.TheVariants as statements
 use Rattle.iq_table.specs.declared.table.Table.{Table as PagedTable}
-use Rattle.iq_table.specs.Table.{TableStands, Gains, GivesRows, projected as chosen}
-use Rattle.iq_table.specs.Layout.{value_at as value_in}
+use Rattle.iq_table.specs.Layout.{row_at, column_of, value_at as value_in}
+use Rattle.iq_table.specs.Table.{TableStands, Gains, GivesColumns}
+use Rattle.iq_table.proofs.AppendLemmas.{value_of_column}
 use Rattle.iq_model.specs.Tables.{Slot, Table, Database, content, live_slot, with_rows, same_name, table_of, replaced}
 use Rattle.iq_model.specs.Statements.{first_refusal, found_if, IsColumnItem, select_checks, room_check, inserted, first_bad_row, first_no_column, column_place, out_of, value_or_null, value_at, projected, rows_of, rows_at, answer}
 use Rattle.iq_plex.specs.declared.stored.Stored.{Stored}
 use Rattle.iq_plex.specs.Plex.{Grants, Refuses, IsTableCause, IsGranted}
-use Rattle.iq_plex.specs.Stored.{told_by, StandsFor, StandFor, OfTables, Leads, StayAs, OfTable, TableLeads, StaysAs, AreFit, named, place_from, place_in}
+use Rattle.iq_plex.specs.Stored.{told_by, StandsFor, StandFor, OfTables, Leads, StayAs, OfTable, TableLeads, StaysAs, AreFit, named, place_from, place_in, answered_row, AreAnswered}
 use Rattle.iq_plex.proofs.Commits.{table_of-named}
 use Rattle.iq_plex.proofs.LookUps.{found, none_found, replaced-stand, insert_missing, insert_there, none_named, named_at}
 
@@ -221,6 +223,10 @@ places_within columns (items.Sum name ∷ members) plain h i lt = absurd plain.0
 places_within columns (items.Min name ∷ members) plain h i lt = absurd plain.0
 places_within columns (items.Max name ∷ members) plain h i lt = absurd plain.0
 
+-- the values that a row has in some columns, in their order
+abbrev pub chosen : List ℕ → List Value → List Value
+chosen places row = map (λ (c : ℕ). value_in c row) places
+
 out_at : (row : List Value) (p : ℕ) → out_of (value_in p row) ≡ value_or_null (slice_get row p)
 out_at [] p = refl
 out_at (v ∷ row) zero = refl
@@ -245,12 +251,33 @@ all_rows columns members (row ∷ rows) plain h =
     ap (λ (r : List Out). r ∷ map (map out_of) (map (chosen (map (place_in columns) members)) rows)) (one_row columns members row plain h)
     ∙ ap (λ (rs : List (List Out)). projected columns members row ∷ rs) (all_rows columns members rows plain h)
 
+-- a row of what was read of the columns is the row that has those values
+row_answered : (k : ℕ) (rows : List (List Value)) (places : List ℕ) → k < length rows
+    → answered_row k (map (λ (c : ℕ). column_of c rows) places) ≡ map out_of (chosen places (row_at k rows))
+row_answered k rows [] h = refl
+row_answered k rows (c ∷ cs) h =
+    ap (λ (v : Value). out_of v ∷ answered_row k (map (λ (d : ℕ). column_of d rows) cs)) (value_of_column c k rows h)
+    ∙ ap (λ (os : List Out). out_of (value_in c (row_at k rows)) ∷ os) (row_answered k rows cs h)
+
+rows_answered : (rows : List (List Value)) (places : List ℕ) (count : ℕ) (outs : List (List Out)) → length rows ≡ count
+    → AreAnswered (map (λ (c : ℕ). column_of c rows) places) count outs → outs ≡ map (map out_of) (map (chosen places) rows)
+rows_answered rows places count outs long answered =
+    same_lists outs (map (map out_of) (map (chosen places) rows))
+    (answered.long ∙ sym long ∙ sym (length-map rows (chosen places)) ∙ sym (length-map (map (chosen places) rows) (map out_of)))
+    (λ k d h.
+    let less : k < count = omega (arith, answered.long) in
+    let within : k < length rows = omega arith in
+    let there : k < length (map (chosen places) rows) = rw (length-map rows (chosen places)) within in
+    get_or_default outs k d [] h ∙ answered.each k less ∙ row_answered k rows places within
+    ∙ sym (get_or-map (map out_of) (map (chosen places) rows) k [] d there ∙ ap (map out_of) (get_or-map (chosen places) rows k [] [] within)))
+
 -- what was read of the columns, as it is answered
-pub answered_rows : (s : Stored) (t : Table) (members : List Item) (places : List ℕ) (got : List (List Value)) (outs : List (List Out)) → AllByRecursion IsColumnItem members → first_no_column s.table.schema.columns members ≡ None
-    → places ≡ map (place_in s.table.schema.columns) members → GivesRows (told_by s.pages) 0 s.table places got → outs ≡ map (map out_of) got → StandsFor s t → outs ≡ map (projected t.columns members) (content t)
-answered_rows s t members places got outs plain none at gives is stands =
+pub answered_rows : (s : Stored) (t : Table) (members : List Item) (places : List ℕ) (columns : List (List Value)) (outs : List (List Out)) → AllByRecursion IsColumnItem members → first_no_column s.table.schema.columns members ≡ None
+    → places ≡ map (place_in s.table.schema.columns) members → GivesColumns (told_by s.pages) 0 s.table places columns → AreAnswered columns s.table.slots outs → StandsFor s t → outs ≡ map (projected t.columns members) (content t)
+answered_rows s t members places columns outs plain none at gives is stands =
     let cols = s.table.schema.columns in
-    is ∙ ap (map (map out_of)) (gives (content t) stands.holds)
+    let read : columns ≡ map (λ (c : ℕ). column_of c (content t)) places = gives (content t) stands.holds in
+    rows_answered (content t) places s.table.slots outs stands.holds.slots_are (rw read at is)
     ∙ ap (λ (ps : List ℕ). map (map out_of) (map (chosen ps) (content t))) at
     ∙ all_rows cols members (content t) plain none
     ∙ ap (λ (cs : List Column). map (projected cs members) (content t)) stands.columns_are

@@ -14,8 +14,8 @@ use Rattle.iq_model.specs.declared.scripts.Script.{Script}
 use Rattle.iq_model.specs.declared.replies.Reply.{Reply}
 use Rattle.iq_model.specs.Tables.{Database}
 use Rattle.iq_model.specs.Statements.{Check, first_refusal, statement_checks, room_checks}
-use Rattle.iq_model.specs.State.{Stage, fresh, begun, locked, done, Run, Standing, idle, running, Desk, State, start, not_held, locks}
-use Rattle.iq_model.specs.History.{IsLegal, change, replay, entry_replies, replies, DeskIs, IsOnTables, IsRunning, IsOpen, CanTake}
+use Rattle.iq_model.specs.State.{Stage, fresh, begun, locked, done, Run, Standing, idle, running, SessionState, State, start, not_held, locks}
+use Rattle.iq_model.specs.History.{IsLegal, change, replay, entry_replies, replies, SessionStateIs, IsOnTables, IsRunning, IsOpen, CanTake}
 
 -- the script, the tables at the opening, and the entries so far
 pub record PlexState : Type 0 where
@@ -39,12 +39,12 @@ abbrev pub replies_of : PlexState → List Reply
 replies_of p = replies (start p.script p.opening) p.entries
 
 -- a session of the coordinator
-abbrev pub desk_of : Standing → Stage → List Line → Desk
-desk_of standing stage left = record { node = 0; standing = standing; stage = stage; left = left }
+abbrev pub session_state_of : Standing → Stage → List Line → SessionState
+session_state_of standing stage left = record { node = 0; standing = standing; stage = stage; left = left }
 
 -- where the one session stands: its transaction, its line under way, and its lines from that one on
 pub record IsAt (p : PlexState) (standing : Standing) (stage : Stage) (left : List Line) : Type 0 where
-  pub desks_are : (state_of p).desks ≡ desk_of standing stage left ∷ []
+  pub session_states_are : (state_of p).session_states ≡ session_state_of standing stage left ∷ []
 
 -- a state opened for a script with these tables: no entry yet, and all lines are left
 pub record IsOpened (script : Script) (opening : Database) (p : PlexState) : Type 0 where
@@ -82,11 +82,11 @@ MayRefuse stage statement seen cause =
     (cause ≡ refusals.NoMemory) ⊎ (first_refusal (statement_checks statement seen) ≡ Some cause) ⊎ HasRoomCause stage statement seen cause
 
 -- the line under way is a statement on tables, no entry of it is there yet, and its session has no transaction
-abbrev pub AsksBegin : Desk → Statement → Type 0
-AsksBegin desk statement = IsOnTables statement × (desk.stage ≡ fresh) × (desk.standing ≡ idle)
+abbrev pub AsksBegin : SessionState → Statement → Type 0
+AsksBegin session_state statement = IsOnTables statement × (session_state.stage ≡ fresh) × (session_state.standing ≡ idle)
 
 abbrev pub CanBeginLine : State → ℕ → ℕ → Type 0
-CanBeginLine s place l = DeskIs s place l AsksBegin
+CanBeginLine s place l = SessionStateIs s place l AsksBegin
 
 -- the names of the line under way, of which none is held yet, where nothing refuses what its statement names and holds
 pub record MayLock (names : List Name) (statement : Statement) (run : Run) : Type 0 where
@@ -95,41 +95,41 @@ pub record MayLock (names : List Name) (statement : Statement) (run : Run) : Typ
   pub granted : first_refusal (statement_checks statement run.now.seen) ≡ None
 
 abbrev pub CanLockLine : State → ℕ → ℕ → List Name → Type 0
-CanLockLine s place l names = DeskIs s place l (λ desk statement. (desk.stage ≡ begun) × IsRunning desk.standing (MayLock names statement))
+CanLockLine s place l names = SessionStateIs s place l (λ session_state statement. (session_state.stage ≡ begun) × IsRunning session_state.standing (MayLock names statement))
 
 -- the line under way is refused so: before its transaction for want of memory alone
-abbrev pub MayRefuseAt : Refusal → Desk → Statement → Type 0
-MayRefuseAt cause desk statement =
-    ((desk.stage ≡ fresh) × (desk.standing ≡ idle) × (cause ≡ refusals.NoMemory))
-    ⊎ (IsOpen desk.stage × IsRunning desk.standing (λ run. MayRefuse desk.stage statement run.now.seen cause))
+abbrev pub MayRefuseAt : Refusal → SessionState → Statement → Type 0
+MayRefuseAt cause session_state statement =
+    ((session_state.stage ≡ fresh) × (session_state.standing ≡ idle) × (cause ≡ refusals.NoMemory))
+    ⊎ (IsOpen session_state.stage × IsRunning session_state.standing (λ run. MayRefuse session_state.stage statement run.now.seen cause))
 
 abbrev pub CanRefuseLine : State → ℕ → ℕ → Refusal → Type 0
-CanRefuseLine s place l cause = DeskIs s place l (MayRefuseAt cause)
+CanRefuseLine s place l cause = SessionStateIs s place l (MayRefuseAt cause)
 
 -- the line under way is this statement, its names are held, and nothing refuses it
-abbrev pub AsksTake : Statement → Desk → Statement → Type 0
-AsksTake st desk statement = (statement ≡ st) × IsOpen desk.stage × IsRunning desk.standing (CanTake statement)
+abbrev pub AsksTake : Statement → SessionState → Statement → Type 0
+AsksTake st session_state statement = (statement ≡ st) × IsOpen session_state.stage × IsRunning session_state.standing (CanTake statement)
 
 abbrev pub CanTakeLine : State → ℕ → ℕ → Statement → Type 0
-CanTakeLine s place l st = DeskIs s place l (AsksTake st)
+CanTakeLine s place l st = SessionStateIs s place l (AsksTake st)
 
 -- the line under way is this statement, and its names are held
-abbrev pub AsksHeld : Statement → Desk → Statement → Type 0
-AsksHeld st desk statement = (statement ≡ st) × IsOpen desk.stage × IsRunning desk.standing (λ run. not_held run.now.held (locks statement) ≡ [])
+abbrev pub AsksHeld : Statement → SessionState → Statement → Type 0
+AsksHeld st session_state statement = (statement ≡ st) × IsOpen session_state.stage × IsRunning session_state.standing (λ run. not_held run.now.held (locks statement) ≡ [])
 
 abbrev pub HoldsLine : State → ℕ → ℕ → Statement → Type 0
-HoldsLine s place l st = DeskIs s place l (AsksHeld st)
+HoldsLine s place l st = SessionStateIs s place l (AsksHeld st)
 
 -- a transaction holds the names of a statement, and nothing refuses what the statement names and holds
 abbrev pub MayWrite : Statement → Run → Type 0
 MayWrite statement run = (not_held run.now.held (locks statement) ≡ []) × Grants (statement_checks statement run.now.seen)
 
 -- the line under way is this statement, and its transaction may write it
-abbrev pub AsksWrite : Statement → Desk → Statement → Type 0
-AsksWrite st desk statement = (statement ≡ st) × IsOpen desk.stage × IsRunning desk.standing (MayWrite statement)
+abbrev pub AsksWrite : Statement → SessionState → Statement → Type 0
+AsksWrite st session_state statement = (statement ≡ st) × IsOpen session_state.stage × IsRunning session_state.standing (MayWrite statement)
 
 abbrev pub CanWriteLine : State → ℕ → ℕ → Statement → Type 0
-CanWriteLine s place l st = DeskIs s place l (AsksWrite st)
+CanWriteLine s place l st = SessionStateIs s place l (AsksWrite st)
 
 -- the line under way is this statement, and its transaction runs
 pub record IsUnderWay (p : PlexState) (st : Statement) : Type 0 where

@@ -8,13 +8,13 @@ use Rattle.iq_model.specs.declared.scripts.Deed.{Deed}
 use Rattle.iq_model.specs.declared.scripts.Deed.TheVariants as deeds
 use Rattle.iq_model.specs.Scripts.{IsRunnableLine}
 use Rattle.iq_model.specs.Tables.{Database}
-use Rattle.iq_model.specs.State.{Stage, fresh, begun, locked, done, Work, Standing, idle, lost, running, Desk, NodeState, Written, State, committed, locks}
-use Rattle.iq_plex.specs.Plex.{desk_of}
+use Rattle.iq_model.specs.State.{Stage, fresh, begun, locked, done, Work, Standing, idle, lost, running, SessionState, NodeState, Written, State, committed, locks}
+use Rattle.iq_plex.specs.Plex.{session_state_of}
 
 -- a state of one node and one session
-abbrev pub only_state : ℕ → Database → List Database → List Written → NodeState → Desk → State
-only_state latest newest older wrote node desk =
-    record { latest = latest; newest = newest; older = older; wrote = wrote; nodes = node ∷ []; desks = desk ∷ [] }
+abbrev pub only_state : ℕ → Database → List Database → List Written → NodeState → SessionState → State
+only_state latest newest older wrote node session_state =
+    record { latest = latest; newest = newest; older = older; wrote = wrote; nodes = node ∷ []; session_states = session_state ∷ [] }
 
 -- the tables as the session sees them: its transaction's, or the latest commit's
 abbrev pub seen_by : Standing → Database → Database
@@ -73,7 +73,7 @@ pub record IsSound (state : State) (latest count room : ℕ) (seen : Database) :
   pub standing : Standing
   pub stage : Stage
   pub left : List Line
-  pub shape : state ≡ only_state latest newest older wrote node (desk_of standing stage left)
+  pub shape : state ≡ only_state latest newest older wrote node (session_state_of standing stage left)
   pub coordinator : node.kind ≡ Coordinator
   pub by_then : AllByRecursion (IsWrittenBy latest) wrote
   pub stands : IsStanding standing stage latest newest left

@@ -1,15 +1,17 @@
 -- Stored tables, and the plain tables for which they stand.
-use Rattle.std.specs.Prelude.{◌≡◌, ℕ, ◌+◌, unwrap_or, List, [], ◌∷◌, map, Option, Some, None, find, if◌then◌else◌}
+use Rattle.std.specs.Prelude.{◌≡◌, ◌<◌, ℕ, ◌+◌, length, slice_index_or, unwrap_or, List, [], ◌∷◌, map, Option, Some, None, find, if◌then◌else◌}
 use Rattle.std.specs.Ordering.{nat_cmp, is_gt}
 use Rattle.std.specs.Cmp.Lexicographic.{slice_cmp}
 use Rattle.iq_base.specs.Shorts.{Name}
 use Rattle.iq_base.specs.declared.values.Value.{Value}
 use Rattle.iq_base.specs.declared.schemas.Column.{Column}
 use Rattle.iq_ast.specs.declared.statements.Item.{Item}
-use Rattle.iq_model.specs.Statements.{insert_checks, column_place, item_column, first_no_column}
+use Rattle.iq_model.specs.declared.answers.Out.{Out}
+use Rattle.iq_model.specs.Statements.{insert_checks, column_place, item_column, first_no_column, out_of}
 use Rattle.iq_plex.specs.declared.sure_pages.SurePages.{SurePages}
 use Rattle.iq_pages.specs.MemoryView.{memory_pages}
 use Rattle.iq_pages.specs.Pages.{Pages}
+use Rattle.iq_table.specs.Layout.{value_at}
 use Rattle.iq_table.specs.Table.{TableStands}
 use Rattle.iq_plex.specs.declared.stored.Stored.{Stored}
 use Rattle.iq_model.specs.Tables.{Table, Database, content, live_slot, same_name, table_of, empty_table}
@@ -93,3 +95,12 @@ place_in columns item = unwrap_or (named_place columns (item_column item)) 0
 pub record ArePlaces (columns : List Column) (members : List Item) (places : List ℕ) : Type 0 where
   pub all_there : first_no_column columns members ≡ None
   pub places_are : places ≡ map (place_in columns) members
+
+-- one row of columns, as it is answered
+abbrev pub answered_row : ℕ → List (List Value) → List Out
+answered_row r columns = map (λ (column : List Value). out_of (value_at r column)) columns
+
+-- the first rows of columns, so many, as they are answered
+pub record AreAnswered (columns : List (List Value)) (count : ℕ) (outs : List (List Out)) : Type 0 where
+  pub long : length outs ≡ count
+  pub each : (r : ℕ) → r < count → slice_index_or outs r [] ≡ answered_row r columns

@@ -6,12 +6,13 @@ ghost use Rattle.iq_ast.specs.Built.{IsPlainSelect, AreItems};
 ghost use Rattle.iq_model.specs.Tables.{Database, Table, content};
 ghost use Rattle.iq_model.specs.Statements.{IsColumnItem, item_column, no_column, first_no_column, out_of, projected, rows_of, answer};
 ghost use Rattle.iq_plex.specs.Plex.{IsTableCause, IsGranted};
-ghost use Rattle.iq_plex.specs.Stored.{OfTables, StayAs, OfTable, StaysAs, place_in, ArePlaces};
+ghost use Rattle.iq_plex.specs.Stored.{OfTables, StayAs, OfTable, StaysAs, place_in, ArePlaces, answered_row, AreAnswered};
+ghost use Rattle.iq_table.specs.Layout.{value_at};
 
 use crate::stored::Stored;
 use crate::tables::place_of;
 use iq_ast::{Item, Select};
-use iq_base::{Column, Listed, NoMemory, Refusal, Row, Value};
+use iq_base::{Column, Listed, NoMemory, Refusal, Value};
 use iq_model::{Out, column_place, out_of};
 use std::alloc::Global;
 
@@ -77,12 +78,13 @@ fn read_rows(
     ensures stays { StaysAs stored.old stored.new }
 {
     let places = places(alloc, stored.table.schema.columns.as_slice(), items)?;
+    let count = stored.table.slots;
     // Pages in memory of which no call is to fail refuse for want of memory alone.
     match stored
         .table
         .read_columns(alloc, 0, &mut stored.pages, places.as_slice())
     {
-        Ok(rows) => Ok(answered(alloc, rows.as_slice())?),
+        Ok(columns) => Ok(answered(alloc, columns.as_slice(), count)?),
         Err(_) => Err(Refusal::NoMemory),
     }
 }
@@ -118,23 +120,36 @@ fn place_in(columns: &[Column], item: &Item) -> Result<usize, Refusal>
     }
 }
 
-/// Rows as they are answered.
-fn answered(alloc: Global, rows: &[Row]) -> Result<Listed<Listed<Out>>, NoMemory>
-    ensures { IfOk result (λ outs. outs ≡ map (map out_of) rows.now) }
+/// The first rows of columns, as they are answered.
+fn answered(
+    alloc: Global,
+    columns: &[Listed<Value>],
+    count: u32,
+) -> Result<Listed<Listed<Out>>, NoMemory>
+    ensures { IfOk result (AreAnswered columns.now count) }
 {
     let mut outs = Listed::new(alloc);
-    for row in rows {
-        outs.push(answered_row(alloc, row.as_slice())?)?;
+    for r in 0..count as usize {
+        outs.push(answered_row(alloc, columns, r)?)?;
     }
     Ok(outs)
 }
 
-fn answered_row(alloc: Global, row: &[Value]) -> Result<Listed<Out>, NoMemory>
-    ensures { IfOk result (λ outs. outs ≡ map out_of row.now) }
+fn answered_row(alloc: Global, columns: &[Listed<Value>], r: usize) -> Result<Listed<Out>, NoMemory>
+    ensures { IfOk result (λ outs. outs ≡ answered_row r columns.now) }
 {
     let mut outs = Listed::new(alloc);
-    for value in row {
-        outs.push(out_of(value))?;
+    for column in columns {
+        outs.push(out_at(column, r))?;
     }
     Ok(outs)
+}
+
+fn out_at(column: &Listed<Value>, r: usize) -> Out
+    ensures { result ≡ out_of (value_at r column.now) }
+{
+    match column.get(r) {
+        Some(value) => out_of(value),
+        None => Out::Null,
+    }
 }

@@ -18,11 +18,11 @@ use Rattle.iq_model.specs.declared.replies.Said.TheVariants as said
 use Rattle.iq_model.specs.Tables.{Database}
 use Rattle.iq_model.specs.Scripts.{HasFewTuples}
 use Rattle.iq_model.specs.Statements.{Check, first_refusal, statement_checks, room_checks}
-use Rattle.iq_model.specs.State.{Stage, fresh, begun, locked, done, Work, Run, Standing, idle, lost, running, Desk, State, not_held, locks, database_of}
-use Rattle.iq_model.specs.History.{DeskIs, IsOnTables, IsOpen, IsRunning, IsPossible, entry_replies, begin_run, write_said, statement_said, takes_effect, line_takes, deed_takes}
-use Rattle.iq_plex.specs.Plex.{PlexState, state_of, replies_of, desk_of, IsAt, IsNext, CanBeginLine, CanLockLine, CanRefuseLine, HoldsLine, AsksBegin, AsksHeld, MayLock, MayRefuseAt, OfSeen, IsUnderWay, IsTableCause}
+use Rattle.iq_model.specs.State.{Stage, fresh, begun, locked, done, Work, Run, Standing, idle, lost, running, SessionState, State, not_held, locks, database_of}
+use Rattle.iq_model.specs.History.{SessionStateIs, IsOnTables, IsOpen, IsRunning, IsPossible, entry_replies, begin_run, write_said, statement_said, takes_effect, line_takes, deed_takes}
+use Rattle.iq_plex.specs.Plex.{PlexState, state_of, replies_of, session_state_of, IsAt, IsNext, CanBeginLine, CanLockLine, CanRefuseLine, HoldsLine, AsksBegin, AsksHeld, MayLock, MayRefuseAt, OfSeen, IsUnderWay, IsTableCause}
 use Rattle.iq_plex.proofs.Names.{not_held-none, not_held-self}
-use Rattle.iq_plex.proofs.Walking.{desk_at, at_begin, at_lock, at_done, at_refused, at_end, at_commit, with_names, with_effect, replies-commit, replies-end}
+use Rattle.iq_plex.proofs.Walking.{session_state_at, at_begin, at_lock, at_done, at_refused, at_end, at_commit, with_names, with_effect, replies-commit, replies-end}
 use Rattle.std.proofs.lemmas.List.Elements.{All-push}
 use Rattle.std.specs.List.{AllByRecursion}
 use Rattle.iq_model.specs.Scripts.{IsRunnableLine}
@@ -30,16 +30,16 @@ use Rattle.iq_render.specs.Placed.{IsPlacedSaid}
 use Rattle.iq_run.specs.Runs.{RunsLines}
 use Rattle.iq_run.specs.Lines.{IsUnder, IsNextLine, Runs, HoldsNone, MayHold, HoldsNames, EndsLine}
 
--- what holds of the desk of the line under way
-pub desk_under : (p : PlexState) (standing : Standing) (stage : Stage) (n : ℕ) (st : Statement) (P : Desk → Statement → Type 0) (u : IsUnder p standing stage n st)
-    → P (desk_of standing stage (u.line ∷ u.rest)) st → DeskIs (state_of p) 0 n P
-desk_under p standing stage n st P u h =
-    subst (λ (m : ℕ). DeskIs (state_of p) 0 m P) u.number_is (desk_at p standing stage u.line u.rest st P u.at u.deed_is h)
+-- what holds of the session_state of the line under way
+pub session_state_under : (p : PlexState) (standing : Standing) (stage : Stage) (n : ℕ) (st : Statement) (P : SessionState → Statement → Type 0) (u : IsUnder p standing stage n st)
+    → P (session_state_of standing stage (u.line ∷ u.rest)) st → SessionStateIs (state_of p) 0 n P
+session_state_under p standing stage n st P u h =
+    subst (λ (m : ℕ). SessionStateIs (state_of p) 0 m P) u.number_is (session_state_at p standing stage u.line u.rest st P u.at u.deed_is h)
 
 -- BEGIN
 
 pub can_begin : (p : PlexState) (n : ℕ) (st : Statement) → IsOnTables st → IsNextLine p n st → CanBeginLine (state_of p) 0 n
-can_begin p n st tables u = desk_under p idle fresh n st AsksBegin u (tables, refl, refl)
+can_begin p n st tables u = session_state_under p idle fresh n st AsksBegin u (tables, refl, refl)
 
 pub begun_of : (p q : PlexState) (n c : ℕ) (st : Statement) → IsNextLine p n st → IsNext p (entries.Begin 0 n c) q → Runs q begun n st HoldsNone
 begun_of p q n c st u next = record {
@@ -78,14 +78,14 @@ refused_ends p q n cause next = record {
 
 -- a running transaction may be refused by what its statement names and holds, or by the room of its table
 pub can_refuse : (p : PlexState) (n : ℕ) (st : Statement) (cause : Refusal) (P : Run → Type 0) (r : Runs p begun n st P) → first_refusal (statement_checks st r.run.now.seen) ≡ Some cause → CanRefuseLine (state_of p) 0 n cause
-can_refuse p n st cause P r found = desk_under p (running r.run) begun n st (MayRefuseAt cause) r.under (inr (tt, inr (inl found)))
+can_refuse p n st cause P r found = session_state_under p (running r.run) begun n st (MayRefuseAt cause) r.under (inr (tt, inr (inl found)))
 
 pub can_refuse_memory : (p : PlexState) (n : ℕ) (st : Statement) (stage : Stage) (P : Run → Type 0) (r : Runs p stage n st P) → IsOpen stage → CanRefuseLine (state_of p) 0 n refusals.NoMemory
-can_refuse_memory p n st stage P r is_open = desk_under p (running r.run) stage n st (MayRefuseAt refusals.NoMemory) r.under (inr (is_open, inl refl))
+can_refuse_memory p n st stage P r is_open = session_state_under p (running r.run) stage n st (MayRefuseAt refusals.NoMemory) r.under (inr (is_open, inl refl))
 
 pub can_refuse_locked : (p : PlexState) (n : ℕ) (st : Statement) (cause : Refusal) (P : Run → Type 0) (r : Runs p locked n st P) → IsTableCause st r.run.now.seen cause → CanRefuseLine (state_of p) 0 n cause
-can_refuse_locked p n st cause P r (inl memory) = desk_under p (running r.run) locked n st (MayRefuseAt cause) r.under (inr (tt, inl memory))
-can_refuse_locked p n st cause P r (inr found) = desk_under p (running r.run) locked n st (MayRefuseAt cause) r.under (inr (tt, inr (inr found)))
+can_refuse_locked p n st cause P r (inl memory) = session_state_under p (running r.run) locked n st (MayRefuseAt cause) r.under (inr (tt, inl memory))
+can_refuse_locked p n st cause P r (inr found) = session_state_under p (running r.run) locked n st (MayRefuseAt cause) r.under (inr (tt, inr (inr found)))
 
 -- what is told of all that the running transaction sees is told of this one
 pub seen_of : (p : PlexState) (n : ℕ) (st : Statement) (stage : Stage) (P : Run → Type 0) (r : Runs p stage n st P) (Q : Database → Type 0) → OfSeen p Q → Q r.run.now.seen

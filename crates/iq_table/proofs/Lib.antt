@@ -3,6 +3,5 @@ pub mod GrowLemmas
 pub mod LimitLemmas
 pub mod PutPage
 pub mod ReadLemmas
-pub mod RowLemmas
 pub mod TableLemmas
 pub mod Windows

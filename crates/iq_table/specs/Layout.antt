@@ -60,8 +60,3 @@ Decodes kind page count old new = (values : List Value) → length values ≡ co
 -- the first cells of a page aren't those of so many values
 abbrev pub IsBad : Kind → List ℕ → ℕ → Type 0
 IsBad kind page count = (values : List Value) → length values ≡ count → ¬ (HoldsCells kind page values)
-
--- the rows, so many, of columns that are read one by one
-pub record IsTurned (columns : List (List Value)) (count : ℕ) (rows : List (List Value)) : Type 0 where
-  pub long : length rows ≡ count
-  pub each : (r : ℕ) → r < count → row_at r rows ≡ map (value_at r) columns

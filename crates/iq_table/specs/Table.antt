@@ -91,13 +91,10 @@ HasMakeCause told place columns before after NoMemory = ⊤
 abbrev pub GivesValues : (ℕ → Option Pages) → ℕ → Table → ℕ → List Value → Type 0
 GivesValues told place table c values = (rows : List (List Value)) → TableStands told place table rows → values ≡ column_of c rows
 
--- the values that a row has in some columns, in their order
-abbrev pub projected : List ℕ → List Value → List Value
-projected columns row = map (λ (c : ℕ). value_at c row) columns
-
--- whatever rows the table stands for, these are their values in some columns
-abbrev pub GivesRows : (ℕ → Option Pages) → ℕ → Table → List ℕ → List (List Value) → Type 0
-GivesRows told place table columns got = (rows : List (List Value)) → TableStands told place table rows → got ≡ map (projected columns) rows
+-- whatever rows the table stands for, these are the values of some columns, in their order
+abbrev pub GivesColumns : (ℕ → Option Pages) → ℕ → Table → List ℕ → List (List Value) → Type 0
+GivesColumns told place table chosen got =
+    (rows : List (List Value)) → TableStands told place table rows → got ≡ map (λ (c : ℕ). column_of c rows) chosen
 
 -- how many pages the rows take in some columns
 abbrev pub page_count : List Column → ℕ → List ℕ → ℕ

@@ -3,11 +3,10 @@ ghost use Rattle.std.specs.Prelude.{◌≡◌, ◌<◌, ◌≤◌, ℕ, ◌+◌,
 ghost use Rattle.iq_pages.specs.Pages.{CountsMore};
 ghost use Rattle.iq_base.specs.Limits.{row_limit};
 ghost use Rattle.iq_table.specs.Reading.{pages_for};
-ghost use Rattle.iq_table.specs.Table.{kind_at, object_of, AreRowsOf, Stands, TableStands, Gains, Keeps, KeepsTheRest, TellsObjects, GivesValues, GivesRows, page_count, HasTableCause, HasMakeCause};
+ghost use Rattle.iq_table.specs.Table.{kind_at, object_of, AreRowsOf, Stands, TableStands, Gains, Keeps, KeepsTheRest, TellsObjects, GivesValues, GivesColumns, page_count, HasTableCause, HasMakeCause};
 
 use crate::append::append_to_columns;
 use crate::read::read_object;
-use crate::rows::rows_of;
 use iq_base::{Column, Kind, Listed, Name, Row, Schema, Value};
 use iq_pages::{PageFault, PageSink, PageSource};
 use std::alloc::Global;
@@ -98,18 +97,18 @@ impl Table {
         read_object(alloc, source, object_of(place, column), kind, self.slots)
     }
 
-    /// The values of rows in some columns, in the order of rows. Each page of a column is read once for each mention of it.
+    /// The values of some columns, each in the order of rows. Each page of a column is read once for each mention of it.
     pub fn read_columns<S: PageSource>(
         &self,
         alloc: Global,
         place: u32,
         source: &mut S,
         columns: &[usize],
-    ) -> Result<Vec<Row>, PageFault>
+    ) -> Result<Vec<Listed<Value>>, PageFault>
         requires place { place < 64 }
         requires columns { length self.now.schema.columns ≤ 32 }
         requires chosen { (i : ℕ) → i < length columns.now → slice_index columns.now i < length self.now.schema.columns }
-        ensures ok { IfOk result (λ rows. GivesRows (S.told source.old) place self.now columns.now rows.items) }
+        ensures ok { IfOk result (λ got. GivesColumns (S.told source.old) place self.now columns.now got.items) }
         ensures told { S.told source.new ≡ S.told source.old }
         ensures counts { S.counts source.new ≡ S.counts source.old }
         ensures reads { OnOk result (CountsMore (page_count self.now.schema.columns self.now.slots columns.now) (S.reads source.old) (S.reads source.new)) }
@@ -121,7 +120,7 @@ impl Table {
             let values = self.read_column(alloc, place, source, *column)?;
             read.push(Listed::from_vec(values))?;
         }
-        Ok(rows_of(alloc, read.as_slice(), self.slots)?)
+        Ok(read)
     }
 }
 

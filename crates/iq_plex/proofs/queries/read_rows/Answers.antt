@@ -1,7 +1,6 @@
 use Rattle.std.proofs.Common.{ℕ, List, map, length, ◌<◌, sym, ◌∙◌, subst, ap}
 use Rattle.std.specs.Prelude.{slice_index}
 use Rattle.iq_base.specs.declared.schemas.Column.{Column}
-use Rattle.iq_model.specs.Statements.{out_of}
 use Rattle.iq_plex.specs.Stored.{ArePlaces}
 use Rattle.iq_plex.proofs.Writing.{places_within, answered_rows}
 use Rattle.iq_plex.proofs.queries.read_rows.Goals as goal
@@ -17,5 +16,5 @@ pub returns-in-Ok-clause-rows : goal.returns-in-Ok-clause-rows
 returns-in-Ok-clause-rows c =
     let found = subst (λ (cs : List Column). ArePlaces cs c.args.items.now c.in_ok-places.places.items) c.as_slice.ensures c.in_ok-places.ensures.ok in
     let at = c.as_slice-2.ensures.value ∙ found.places_are in
-    let told = c.in_ok-answered-in-Ok.ensures ∙ ap (map (map out_of)) c.as_slice-in-Ok.ensures.value in
-    λ t stands. answered_rows c.args.stored.now t c.args.items.now c.as_slice-2.result.now c.in-Ok.rows.items c.in_ok-answered-in-Ok.field-0 c.requires found.all_there at c.in-Ok.ensures.ok told stands
+    let told = rw c.as_slice-in-Ok.ensures.value at c.in_ok-answered-in-Ok.ensures in
+    λ t stands. answered_rows c.args.stored.now t c.args.items.now c.as_slice-2.result.now c.in-Ok.columns.items c.in_ok-answered-in-Ok.field-0 c.requires found.all_there at c.in-Ok.ensures.ok told stands
