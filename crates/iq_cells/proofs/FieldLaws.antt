@@ -1,5 +1,5 @@
 -- A row without a bad field has for each column a value that it may hold.
-use Rattle.std.proofs.Common.{◌≡◌, ◌<◌, ℕ, ◌+◌, zero, suc, ℤ, pos, negsuc, Bool, true, false, List, [], ◌∷◌, Option, Some, None, length, nat_eq, nat_le, slice_index_or, refl, sym, ap, ◌∙◌, arith, FitsSigned, w32, w64, if◌then◌else◌}
+use Rattle.std.proofs.Common.{◌≡◌, ◌<◌, ℕ, ◌+◌, zero, suc, ℤ, pos, negsuc, Bool, true, false, List, [], ◌∷◌, Option, Some, None, length, nat_eq, nat_le, slice_index_or, refl, arith, FitsSigned, w32, w64, if◌then◌else◌}
 use borrow.Author.Tests.{ltb-true, leb-true, eqb-true}
 use Rattle.std.proofs.lemmas.Int.{ints}
 use Rattle.std.specs.Option.{option_or}

@@ -2,7 +2,7 @@
 use Rattle.std.proofs.Common.{◌≡◌, refl, subst, ◌≤◌, ◌<◌, ℕ, ◌+◌, ◌-◌, ◌*◌, ◌/◌, List, [], ◌∷◌, ◌++◌, length, take, drop, sym, ap, ◌∙◌, inl, inr, arith}
 use Rattle.std.proofs.Math.Nat.{mul-le-mul_right, zero-mul, div-mul-le_self}
 use Rattle.std.proofs.lemmas.Bool.{cases_lt}
-use Rattle.std.proofs.lemmas.List.{append-nil, ext_get_or, length-append, length-take, length-drop, take_all, take_at, take-append-le, drop-append-le, drop-drop, drop_at, drop-take, take-take, get_or_append_left, get_or-append_right, get_or-take}
+use Rattle.std.proofs.lemmas.List.{ext_get_or, length-append, length-take, take_all, get_or_append_left, get_or-append_right, get_or-take}
 use Rattle.std.proofs.lemmas.List.FromFn.{length-map-range_with_len, get_or-map-range_with_len}
 use Rattle.iq_base.specs.declared.values.Kind.{Kind}
 use Rattle.iq_base.specs.declared.values.Value.{Value}

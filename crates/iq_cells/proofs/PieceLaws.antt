@@ -2,7 +2,7 @@
 use Rattle.std.proofs.Common.{◌≡◌, ◌≢◌, refl, ◌≤◌, ◌<◌, ℕ, ◌+◌, ◌-◌, ◌*◌, ◌/◌, List, ◌++◌, length, take, drop, sym, ap, ◌∙◌, inl, inr, arith}
 use Rattle.std.proofs.Math.Nat.{mul-le-mul_right, div-mul-le_self}
 use Rattle.std.proofs.lemmas.Bool.{cases_lt}
-use Rattle.std.proofs.lemmas.List.{length-take, length-take-le, take_at, length-drop, length-append, take-append-le, drop-append-le, drop-drop, drop_at, drop-take, take-take}
+use Rattle.std.proofs.lemmas.List.{length-take, length-take-le, take_at, length-drop, take-append-le, drop-append-le, drop-drop, drop_at, drop-take, take-take}
 use Rattle.std.proofs.lemmas.Slice.{take-put_mid_below, drop-put_mid}
 use borrow.Rule.Slice.PartMut.{put_mid, post_of}
 use Rattle.iq_cells.specs.Pieces.{piece_in}

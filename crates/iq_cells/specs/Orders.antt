@@ -1,5 +1,4 @@
 -- The order of values: NULL before numbers, and those before texts; numbers by value, texts by their bytes.
-use Rattle.std.specs.Prelude.{List, ℕ}
 use Rattle.std.specs.declared.cmp.Ordering.{Ordering}
 use Rattle.std.specs.declared.cmp.Ordering.TheVariants.{Less, Equal, Greater}
 use Rattle.std.specs.Ordering.{nat_cmp, int_cmp}

@@ -15,7 +15,7 @@ mod packed;
 mod rows;
 
 pub use cells::{Cells, CellsFault};
-pub use codes::{code_at, codes_of, decode, encode, put_code, put_codes};
+pub use codes::{code_at, codes_of, put_code};
 pub use fields::{
     BadField, FieldFault, RowFault, field_cause, first_bad_field, null_cause, number_cause,
     text_cause,

@@ -1,5 +1,5 @@
 -- The place of a cell among the cells of values.
-use Rattle.std.proofs.Common.{◌≡◌, ◌≢◌, ◌<◌, ◌≤◌, ℕ, ◌+◌, Bool, true, false, not, List, [], ◌∷◌, ◌++◌, ◌⊎◌, map, length, slice_index_or, take, inl, inr, refl, sym, ap, ◌∙◌, subst, nat_eq, if◌then◌else◌, true≢false, arith}
+use Rattle.std.proofs.Common.{◌≡◌, ◌≢◌, ◌<◌, ◌≤◌, ℕ, ◌+◌, Bool, true, false, not, List, [], ◌∷◌, ◌++◌, ◌⊎◌, map, length, slice_index_or, take, inl, inr, refl, sym, ap, ◌∙◌, nat_eq, if◌then◌else◌, true≢false, arith}
 use Rattle.std.specs.List.{list_any, position_or_len}
 use Rattle.std.specs.Cmp.Lexicographic.{pointwise, bytes_decides}
 use Rattle.std.proofs.lemmas.Bool.{cases_lt}
@@ -10,10 +10,10 @@ use Rattle.indexmap.specs.IndexSet.{insert_key}
 use Rattle.iq_base.specs.declared.values.Kind.{Kind}
 use Rattle.iq_base.specs.declared.values.Value.{Value}
 use Rattle.iq_base.specs.declared.values.Value.TheVariants.{Null}
-use Rattle.iq_base.specs.Cells.{IsOf, cell, IsCell}
+use Rattle.iq_base.specs.Cells.{cell, IsCell}
 use Rattle.iq_base.proofs.CellLaws.{cell_tells}
-use Rattle.iq_cells.specs.Packed.{value_at, AreOf}
-use Rattle.iq_numbering.specs.Numbers.{AreDistinct, IsAt, HasKeys, Finds, Adds, StepsTo}
+use Rattle.iq_cells.specs.Packed.{value_at}
+use Rattle.iq_numbering.specs.Numbers.{AreDistinct, IsAt, HasKeys, StepsTo}
 
 -- the place of a test's first pass is at most the length
 place_le : (p : List ℕ → Bool) (ks : List (List ℕ)) → position_or_len p ks ≤ length ks

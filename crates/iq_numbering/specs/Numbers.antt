@@ -1,5 +1,5 @@
 -- The numbering of the distinct values of a column.
-use Rattle.std.specs.Prelude.{◌≡◌, ◌≢◌, ◌<◌, ◌≤◌, ℕ, ◌+◌, List, [], ◌∷◌, ◌++◌, ◌⊎◌, map, length, take, slice_index}
+use Rattle.std.specs.Prelude.{◌≡◌, ◌≢◌, ◌<◌, ℕ, ◌+◌, List, [], ◌∷◌, ◌++◌, ◌⊎◌, map, length, slice_index}
 use Rattle.iq_base.specs.declared.values.Value.{Value}
 use Rattle.iq_cells.specs.Packed.{value_at, AreOf}
 use Rattle.iq_base.specs.declared.values.Kind.{Kind}

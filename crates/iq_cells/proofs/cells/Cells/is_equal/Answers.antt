@@ -1,5 +1,3 @@
-use Rattle.std.proofs.Common.{subst}
-use Rattle.iq_base.specs.declared.values.Kind.{Kind}
 use Rattle.iq_base.specs.Cells.{IsCell}
 use Rattle.iq_cells.specs.Packed.{value_at}
 use Rattle.iq_cells.proofs.CellValues.{equal_cells}

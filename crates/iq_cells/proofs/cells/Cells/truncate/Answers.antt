@@ -1,5 +1,4 @@
-use Rattle.std.proofs.Common.{◌≡◌, ◌≤◌, ◌*◌, ℕ, take, ap, ◌∙◌, arith}
-use Rattle.iq_base.specs.Cells.{width}
+use Rattle.std.proofs.Common.{◌*◌, ℕ, take, ap, ◌∙◌, arith}
 use Rattle.iq_cells.proofs.PackedLaws.{column_first, column_room}
 use Rattle.iq_cells.proofs.cells.Cells.truncate.Goals as goal
 

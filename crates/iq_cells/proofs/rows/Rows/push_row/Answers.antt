@@ -1,9 +1,8 @@
-use Rattle.std.proofs.Common.{◌≡◌, ◌<◌, ℕ, length, slice_index_or, sym, ap, ◌∙◌, subst, arith}
+use Rattle.std.proofs.Common.{◌≡◌, ◌<◌, length, slice_index_or, sym, ap, ◌∙◌, subst, arith}
 use Rattle.iq_base.specs.declared.values.Kind.{Kind}
 use Rattle.iq_base.specs.declared.values.Kind.TheVariants.{Int}
 use Rattle.iq_base.specs.Cells.{IsOf}
 use Rattle.iq_cells.specs.Packed.{value_at}
-use Rattle.iq_cells.specs.Growing.{kinds_of}
 use Rattle.iq_cells.proofs.FieldLaws.{row_wide, row_fits}
 use Rattle.iq_cells.proofs.RowLaws.{rows_long, rows_wide, rows_kind}
 use Rattle.iq_cells.proofs.GrowLaws.{rows_grown, kinds_long}
