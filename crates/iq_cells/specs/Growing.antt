@@ -42,6 +42,10 @@ pub record GrowTo (n : ℕ) (columns columns' : List Column) (row : List Value) 
   pub each : (c : ℕ) → c < n → column_at c columns' ≡ with_more (column_at c columns) (value_at c row ∷ [])
   pub others : (c : ℕ) → n ≤ c → column_at c columns' ≡ column_at c columns
 
+-- each column has n values at least
+abbrev pub HaveValues : ℕ → List Column → Type 0
+HaveValues n columns = (c : ℕ) → c < length columns → n ≤ length (column_at c columns).values
+
 -- each column is cut to its first n values
 pub record AreCut (n : ℕ) (columns columns' : List Column) : Type 0 where
   pub long : length columns' ≡ length columns

@@ -1,7 +1,7 @@
 //! Columns that grow by a row, each by one value.
-ghost use Rattle.std.specs.Prelude.{◌≡◌, ◌≤◌, ◌<◌, ◌^◌, ℕ, length, map, IfOk, OnOk, OnErr};
-ghost use Rattle.iq_cells.specs.Tables.{column_at, AreLong};
-ghost use Rattle.iq_cells.specs.Growing.{no_values, MayHold, GrowBy, AreCut};
+ghost use Rattle.std.specs.Prelude.{◌≡◌, ◌<◌, ◌^◌, length, map, IfOk, OnOk, OnErr};
+ghost use Rattle.iq_cells.specs.Tables.{AreLong};
+ghost use Rattle.iq_cells.specs.Growing.{no_values, MayHold, GrowBy, HaveValues, AreCut};
 
 use crate::cells::Cells;
 use iq_base::{Column, NoMemory, Value};
@@ -42,7 +42,7 @@ pub(crate) fn grow(columns: &mut Vec<Cells>, count: usize, values: &[Value]) -> 
 
 /// Cuts each column to its first `count` values.
 fn cut(columns: &mut Vec<Cells>, count: usize)
-    requires { (c : ℕ) → c < length columns.old.items → count ≤ length (column_at c columns.old.items).values }
+    requires { HaveValues count columns.old.items }
     ensures { AreCut count columns.old.items columns.new.items }
 {
     for c in 0..columns.len() {
