@@ -1,0 +1,5 @@
+pub mod Names
+pub mod Fields
+pub mod Parts
+pub mod Wholes
+pub mod Loops

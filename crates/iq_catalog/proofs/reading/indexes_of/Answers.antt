@@ -1,0 +1,13 @@
+use Rattle.std.proofs.Common.{arith}
+use Rattle.iq_catalog.proofs.Loops.{indexes_on, indexes_end}
+use Rattle.iq_catalog.proofs.reading.indexes_of.Goals as goal
+
+pub loop-preserved : goal.loop-preserved
+loop-preserved c = record {
+  made = indexes_on c.loop.indexes _ _ _ c.args.count c.loop.counter c.loop.rest.now _ c.in_ok-push.ensures.ok c.index_of.ensures
+      c.split_at.ensures.back c.loop-test.true c.loop.invariant.made;
+  left = omega (arith, c.split_at.ensures.back_len, c.loop.invariant.left, c.loop-test.true);
+}
+
+pub returns : goal.returns
+returns c = indexes_end c.loop.indexes _ c.args.count c.loop.counter c.loop.rest.now c.loop-test.false c.loop.invariant.made

@@ -1,0 +1,5 @@
+pub mod Texts
+pub mod Storable
+pub mod Pages
+pub mod Reading
+pub mod Faults
