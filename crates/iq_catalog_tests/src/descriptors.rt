@@ -1,7 +1,7 @@
 //! Descriptors as pages, and back.
 use crate::tables::{mixed, of_kind, table};
 use iq_base::{Descriptor, Kind, NoMemory, PAGE_BYTES, Page};
-use iq_catalog::{CatalogFault, get, is_storable, put, slot_limit};
+use iq_catalog::{CatalogFault, fits_slots, get, is_storable, put, slot_limit};
 use std::alloc::Global;
 use std::test::Fail;
 
@@ -221,6 +221,63 @@ fn the_longest_text_tells_how_many_slots_there_may_be(rt: HostRuntime) -> Result
         let table = of_kind(alloc, kind, low_fast)?;
         assert_eq!(rt; slot_limit(&table), slots, "{kind:?} {low_fast}");
         assert!(rt; is_storable(&table), "{kind:?} {low_fast}");
+    }
+    Ok(())
+}
+
+/// The bytes behind an index's name: its kind and column, and how many pages its three objects have.
+fn index_of(kind: u8, column: u8, first: u8, second: u8, third: u8) -> [u8; 31] {
+    [
+        kind, column, 255, 0, 0, 0, 0, 12, 0, 0, 0, first, 0, 0, 0, second, 0, 0, 0, second, 0, 0,
+        0, third, 0, 0, 0, third, 0, 0, 0,
+    ]
+}
+
+#[test]
+fn objects_have_the_pages_that_slots_and_values_ask_for(rt: HostRuntime) -> Result<(), Fail> {
+    // What is so, the bytes that make it so in a page of a table that fits, and whether it still does. A directory of an HG on INT
+    // has 77 leaves a page.
+    let rows: [(&str, usize, &[u8], bool); 18] = [
+        ("nothing is changed", 0, &[], true),
+        ("an existence bitmap of two pages", 53, &[2], false),
+        ("a slot in a second chunk", 45, &[0x81, 0x1f], false),
+        ("codes of two pages", 100, &[2], false),
+        ("values of two pages", 108, &[2], false),
+        ("an LF with values of two pages", 264, &[2], false),
+        ("an LF without numbers", 268, &[0, 0, 0, 0, 0], false),
+        ("an LF with two bitmaps", 280, &[2], true),
+        ("a CMP of a number and a text", 317, &[2], false),
+        ("a CMP of one page", 326, &[1], false),
+        ("a CMP with a second object", 330, &[20, 0, 0, 0, 1], false),
+        ("an HNG on INT", 253, &index_of(3, 0, 33, 0, 0), true),
+        (
+            "an HNG on INT of 65 pages",
+            253,
+            &index_of(3, 0, 65, 0, 0),
+            false,
+        ),
+        ("an HNG on a text", 253, &index_of(3, 2, 33, 0, 0), false),
+        ("an HG of 77 leaves", 253, &index_of(2, 0, 77, 1, 0), true),
+        ("an HG of 78 leaves", 253, &index_of(2, 0, 78, 1, 0), false),
+        (
+            "an HG of 78 leaves and two pages",
+            253,
+            &index_of(2, 0, 78, 2, 0),
+            true,
+        ),
+        (
+            "an HG with a third object",
+            253,
+            &index_of(2, 0, 77, 1, 1),
+            false,
+        ),
+    ];
+    let alloc = rt.alloc();
+    let page = with(mixed_page(alloc)?, 268, &[14, 0, 0, 0, 1]);
+    let page = with(with(page, 326, &[3]), 338, &[0, 0, 0, 0, 0]);
+    for (what, at, bytes, fits) in rows {
+        let table = get(alloc, &[with(page, at, bytes)])?;
+        assert_eq!(rt; fits_slots(&table), fits, "{what}");
     }
     Ok(())
 }
