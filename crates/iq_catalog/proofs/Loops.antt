@@ -1,6 +1,6 @@
 -- One more page, column or index in a loop.
-use Rattle.std.specs.Prelude.{◌≡◌, ℕ, suc, ◌+◌, ◌-◌, ◌<◌, ◌≤◌, List, [], ◌∷◌, ◌++◌, take, drop}
-use Rattle.std.proofs.Common.{sym, ap, ◌∙◌, arith, append_assoc}
+use Rattle.std.specs.Prelude.{◌≡◌, ℕ, suc, ◌+◌, ◌-◌, ◌<◌, ◌≤◌, List, [], ◌∷◌, ◌++◌, take, drop, length, Result, Ok, Err, IfOk}
+use Rattle.std.proofs.Common.{sym, ap, ◌∙◌, arith, append_assoc, length-append}
 use Rattle.std.proofs.lemmas.List.{append-nil, take-append-drop}
 use Rattle.iq_base.specs.declared.descriptors.ColumnPart.{ColumnPart}
 use Rattle.iq_base.specs.declared.descriptors.IndexPart.{IndexPart}
@@ -19,6 +19,18 @@ cut_on old new page rest back whole pushed front behind so_far =
     ∙ append_assoc (joined old) page back ∙ ap (λ (t : List ℕ). joined old ++ (t ++ back)) front
     ∙ ap (λ (t : List ℕ). joined old ++ (take 1008 rest ++ t)) behind
     ∙ ap (λ (t : List ℕ). joined old ++ t) (take-append-drop 1008 rest) ∙ so_far
+
+pub made_on : (old new : List (List ℕ)) (page : List ℕ) (i : ℕ) → new ≡ old ++ page ∷ [] → length old ≡ i → length new ≡ i + 1
+made_on old new page i pushed so_far = omega (arith, ap length pushed, length-append old (page ∷ []), so_far)
+
+-- how many there are, in a result
+pub some_counted : {X E : Type 0} (size : X → ℕ) (r : Result X E) (count : ℕ) → IfOk r (λ x. size x ≡ count) → 1 ≤ count → IfOk r (λ x. 1 ≤ size x)
+some_counted size (Ok x) count is some = omega (arith, is, some)
+some_counted size (Err e) count is some = tt
+
+pub few_counted : {X E : Type 0} (size : X → ℕ) (r : Result X E) (count : ℕ) → IfOk r (λ x. size x ≡ count) → count ≤ 4 → IfOk r (λ x. size x ≤ 4)
+few_counted size (Ok x) count is few = omega (arith, is, few)
+few_counted size (Err e) count is few = tt
 
 -- a column more
 pub columns_on : (old new whole : List ColumnPart) (c : ColumnPart) (count i : ℕ) (rest back : List ℕ) → new ≡ old ++ c ∷ [] → c ≡ column_of rest

@@ -159,6 +159,23 @@ pub length-descriptor_bytes : (t : Descriptor) → length (descriptor_bytes t) �
 unfolding descriptor_bytes
 length-descriptor_bytes t = omega (arith, length-filled (zeros 12 ++ descriptor_text t))
 
+-- a descriptor takes 1 to 4 pages
+pub record FewPages (t : Descriptor) : Type 0 where
+  pub some : 1 ≤ length (descriptor_bytes t) / 1008
+  pub few : length (descriptor_bytes t) / 1008 ≤ 4
+
+pub few_pages : (t : Descriptor) → IsStorable t → FewPages t
+unfolding descriptor_bytes
+few_pages t h =
+    let bytes = zeros 12 ++ descriptor_text t in
+    let size : length bytes ≡ 57 + 55 * length t.columns + 62 * length t.indexes
+    = omega (arith, length-append (zeros 12) (descriptor_text t), length-zeros 12, length-text t h) in
+    let filled_size = length-filled bytes in
+    record {
+      some = omega (arith, filled_size, size);
+      few = omega (arith, filled_size, size, h.few_columns, h.few_indexes);
+    }
+
 -- behind the addresses there is the text, and something behind it
 record BehindAddresses (t : Descriptor) : Type 0 where
   rest : List ℕ

@@ -3,3 +3,4 @@ pub mod Storable
 pub mod Pages
 pub mod Reading
 pub mod Faults
+pub mod Sizes

@@ -9,10 +9,12 @@ mod codes;
 mod faults;
 mod pages;
 mod reading;
+mod sizes;
 mod storable;
 mod writing;
 
 pub use faults::CatalogFault;
 pub use reading::get;
+pub use sizes::fits_slots;
 pub use storable::{is_storable, slot_limit};
 pub use writing::put;

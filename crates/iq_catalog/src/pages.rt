@@ -28,7 +28,8 @@ pub fn fill(out: &mut Vec<u8>) -> Result<(), NoMemory>
 /// Bytes as so many pages.
 pub fn cut(alloc: Global, count: usize, bytes: &[u8]) -> Result<Vec<Page>, NoMemory>
     requires { length bytes.now ≡ 1008 * count }
-    ensures { IfOk result (λ pages. joined pages.items ≡ bytes.now) }
+    ensures whole { IfOk result (λ pages. joined pages.items ≡ bytes.now) }
+    ensures count { IfOk result (λ pages. length pages.items ≡ count) }
 {
     let mut pages = Vec::with_capacity(alloc, count)?;
     let mut rest = bytes;

@@ -19,7 +19,9 @@ const MOST_BYTES: usize = 4 * PAGE_BYTES;
 /// bytes twice.
 pub fn put(alloc: Global, table: &Descriptor) -> Result<Vec<Page>, NoMemory>
     requires { IsStorable table.now }
-    ensures { IfOk result (λ pages. HasPages table.now pages.items) }
+    ensures pages { IfOk result (λ pages. HasPages table.now pages.items) }
+    ensures some { IfOk result (λ pages. 1 ≤ length pages.items) }
+    ensures few { IfOk result (λ pages. length pages.items ≤ 4) }
 {
     let all = descriptor_bytes(alloc, table)?;
     let bytes = all.as_slice();
