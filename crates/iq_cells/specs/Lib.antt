@@ -1,0 +1,5 @@
+pub mod Pieces
+pub mod Packed
+pub mod Faults
+pub mod Codes
+pub mod Tables

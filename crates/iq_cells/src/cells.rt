@@ -1,0 +1,146 @@
+//! The cells of one column, one behind the other.
+ghost use Rattle.std.specs.Prelude.{◌≡◌, ◌<◌, ◌≤◌, [], ◌∷◌, ◌+◌, length, OnOk, OnErr, IfErr};
+ghost use Rattle.iq_base.specs.Cells.{IsOf, IsCell};
+ghost use Rattle.iq_cells.specs.Packed.{with_more, value_at, values_in, per_page, AreCells, HoldsValues, KeepsCells};
+ghost use Rattle.iq_cells.specs.Faults.{HasCellsCause};
+
+use crate::packed::{are_cells, cell_of, copy_cells, put_behind};
+use iq_base::{Kind, NoMemory, Page, Value, cell_get, width};
+use std::alloc::{AllocError, Global};
+use std::marker::Model;
+
+/// Why cells aren't taken in.
+#[derive(Clone, Copy, Debug, PartialEq, Eq)]
+pub enum CellsFault {
+    /// The bytes of a cell are those of no value that a column of the kind may hold.
+    BadCell,
+    /// An allocation was refused.
+    NoMemory,
+}
+
+/// Values of one kind, or NULL, as the bytes of their cells: 5 bytes a value for INT, 9 for BIGINT, and two more than the
+/// greatest length for VARCHAR. Values are counted from 0.
+#[derive(Debug, Drop)]
+pub struct Cells {
+    kind: Kind,
+    bytes: Vec<u8>,
+    count: usize,
+}
+
+impl Model for Cells {
+    ghost use Rattle.iq_cells.specs.Packed.{Column, column_in, ArePacked};
+
+    ghost Value = { Column };
+
+    ghost view = { λ c. column_in c.kind c.bytes.items c.count };
+
+    ghost invariant = { λ c. ArePacked c.kind c.bytes.items c.count };
+}
+
+impl Cells {
+    /// No values of a kind. It takes no memory.
+    pub fn new(alloc: Global, kind: Kind) -> Cells
+        ensures { result ≡ record { kind = kind; values = [] } }
+    {
+        Cells {
+            kind,
+            bytes: Vec::new(alloc),
+            count: 0,
+        }
+    }
+
+    /// What the column may hold beside NULL.
+    pub fn kind(&self) -> Kind
+        ensures { result ≡ self.now.kind }
+    {
+        self.kind
+    }
+
+    /// How many values there are.
+    pub fn len(&self) -> usize
+        ensures { result ≡ length self.now.values }
+    {
+        self.count
+    }
+
+    /// The bytes of a value's cell, as a page holds them.
+    pub fn cell(&self, i: usize) -> &[u8]
+        requires { i < length self.now.values }
+        ensures cell { IsCell self.now.kind (value_at i self.now.values) result.now }
+    {
+        cell_of(self.kind, &self.bytes, i)
+    }
+
+    /// A value. It takes no memory; a text of 255 bytes lies in the value itself.
+    pub fn get(&self, i: usize) -> Value
+        requires { i < length self.now.values }
+        ensures { result ≡ value_at i self.now.values }
+    {
+        match cell_get(self.kind, self.cell(i)) {
+            Ok(value) => value,
+            Err(_) => unreachable!(),
+        }
+    }
+
+    /// Puts a value at the end. The column is as before where memory is wanting.
+    pub fn push(&mut self, value: &Value) -> Result<(), NoMemory>
+        requires { IsOf self.old.kind value.now }
+        ensures ok { OnOk result (self.new ≡ with_more self.old (value.now ∷ [])) }
+        ensures err { OnErr result (self.new ≡ self.old) }
+    {
+        put_behind(&mut self.bytes, self.kind, value)?;
+        self.count += 1;
+        Ok(())
+    }
+
+    /// Puts a value of another column of the kind at the end, by its bytes. The column is as before where memory is wanting.
+    pub fn push_from(&mut self, other: &Cells, i: usize) -> Result<(), NoMemory>
+        requires kind { other.now.kind ≡ self.old.kind }
+        requires there { i < length other.now.values }
+        ensures ok { OnOk result (self.new ≡ with_more self.old (value_at i other.now.values ∷ [])) }
+        ensures err { OnErr result (self.new ≡ self.old) }
+    {
+        self.bytes.extend_from_slice(other.cell(i))?;
+        self.count += 1;
+        Ok(())
+    }
+
+    /// Puts the values of the first `n` cells of a page at the end. The column is as before where one of these is no cell
+    /// (`BadCell`), or where memory is wanting.
+    pub fn extend_from_page(&mut self, page: &Page, n: usize) -> Result<(), CellsFault>
+        requires { n ≤ per_page self.old.kind }
+        ensures ok { OnOk result (self.new ≡ with_more self.old (values_in self.old.kind page.now n)) }
+        ensures cells { OnOk result (AreCells self.old.kind page.now n) }
+        ensures err { OnErr result (self.new ≡ self.old) }
+        ensures cause { IfErr result (HasCellsCause self.old.kind page.now n) }
+    {
+        if !are_cells(self.kind, page, n) {
+            return Err(CellsFault::BadCell);
+        }
+        self.bytes.extend_from_slice(&page[..n * width(self.kind)])?;
+        self.count += n;
+        Ok(())
+    }
+
+    /// Writes the cells of `n` values, from value `from` on, into a page, from its cell `first` on. The cells before that one
+    /// stay.
+    pub fn put_in_page(&self, from: usize, n: usize, page: &mut Page, first: usize)
+        requires there { from + n ≤ length self.now.values }
+        requires fits { first + n ≤ per_page self.now.kind }
+        ensures here { HoldsValues self.now.kind self.now.values from n page.new first }
+        ensures before { KeepsCells self.now.kind first page.old page.new }
+    {
+        copy_cells(self.kind, &self.bytes, from, n, page, first);
+    }
+}
+
+impl From<AllocError> for CellsFault {
+    ghost use Rattle.std.specs.Prelude.{◌≡◌};
+    ghost use Rattle.iq_cells.specs.declared.cells.CellsFault.TheVariants as faults;
+
+    ghost from_gives = { λ _ e. e ≡ faults.NoMemory };
+
+    fn from(_: AllocError) -> CellsFault {
+        CellsFault::NoMemory
+    }
+}

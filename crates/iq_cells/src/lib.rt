@@ -1,0 +1,16 @@
+//! Columns of cells: the form in which values travel in bulk.
+//!
+//! Contracts see `Cells` as a kind and the list of its values, `Rows` as the kinds of its columns and the list of its rows, and
+//! codes as the numbers that lie in a page. Below stands `iq_base`, with values and the bytes of one cell; above stand the
+//! layers that number, store, load and answer values. Its one law: so many cells of w bytes lie one behind the other, each the
+//! cell of its value, as on a page.
+#![tactic(auto)]
+
+mod cells;
+mod codes;
+mod packed;
+mod rows;
+
+pub use cells::{Cells, CellsFault};
+pub use codes::{code_at, codes_of, decode, encode, put_code, put_codes};
+pub use rows::Rows;
