@@ -1,5 +1,6 @@
 pub mod Pieces
 pub mod Packed
+pub mod Fields
 pub mod Faults
 pub mod Codes
 pub mod Tables
