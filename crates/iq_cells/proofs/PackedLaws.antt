@@ -2,13 +2,13 @@
 use Rattle.std.proofs.Common.{◌≡◌, refl, subst, ◌≤◌, ◌<◌, ℕ, ◌+◌, ◌-◌, ◌*◌, ◌/◌, List, [], ◌∷◌, ◌++◌, length, take, drop, sym, ap, ◌∙◌, inl, inr, arith}
 use Rattle.std.proofs.Math.Nat.{mul-le-mul_right, zero-mul, div-mul-le_self}
 use Rattle.std.proofs.lemmas.Bool.{cases_lt}
-use Rattle.std.proofs.lemmas.List.{append-nil, ext_get_or, length-append, length-take, length-drop, take_all, take_at, take-append-le, drop-append-le, drop-drop, drop_at, drop-take, take-take, get_or_append_left, get_or-append_right}
+use Rattle.std.proofs.lemmas.List.{append-nil, ext_get_or, length-append, length-take, length-drop, take_all, take_at, take-append-le, drop-append-le, drop-drop, drop_at, drop-take, take-take, get_or_append_left, get_or-append_right, get_or-take}
 use Rattle.std.proofs.lemmas.List.FromFn.{length-map-range_with_len, get_or-map-range_with_len}
 use Rattle.iq_base.specs.declared.values.Kind.{Kind}
 use Rattle.iq_base.specs.declared.values.Value.{Value}
 use Rattle.iq_base.specs.declared.values.Value.TheVariants.{Null}
 use Rattle.iq_base.specs.Cells.{width, IsOf, IsText, IsCell, cell}
-use Rattle.iq_cells.specs.Packed.{value_of_cell, cell_in, values_in, value_at, AreCells, ArePacked, Column, column_in, with_more, per_page}
+use Rattle.iq_cells.specs.Packed.{value_of_cell, cell_in, values_in, value_at, AreCells, ArePacked, Column, column_in, with_more, first_values, per_page}
 use Rattle.iq_cells.proofs.PieceLaws.{piece_within, piece_in-left, piece_in-right, piece_in-take}
 use Rattle.iq_cells.proofs.CellValues.{value_is, cell_is, cell_long}
 
@@ -93,6 +93,14 @@ module _ (kind : Kind) (v : Value) (bytes : List ℕ) (is : IsCell kind v bytes)
   unfolding values_in
   values_in-one = ap (λ (b : List ℕ). value_of_cell kind b ∷ []) one_cell ∙ ap (λ (u : Value). u ∷ []) (value_is kind v bytes is)
 
+-- the values of the first of some cells are the first values
+pub values_in-first : (kind : Kind) (bytes : List ℕ) (n m : ℕ) → m ≤ n → values_in kind bytes m ≡ take m (values_in kind bytes n)
+values_in-first kind bytes n m h =
+    ext_get_or Null (values_in kind bytes m) (take m (values_in kind bytes n))
+    (length-values_in kind bytes m ∙ (omega (arith, length-take m (values_in kind bytes n), length-values_in kind bytes n)))
+    (λ i l. let within : i < m = omega (arith, length-values_in kind bytes m) in
+    value_at-values_in kind bytes m i within ∙ sym (get_or-take m (values_in kind bytes n) i Null within ∙ value_at-values_in kind bytes n i (omega arith)))
+
 -- so many cells lie in a page
 pub page_room : (kind : Kind) (k : ℕ) → k ≤ per_page kind → k * width kind ≤ 1008
 page_room kind k h = let up : k * width kind ≤ 1008 / width kind * width kind = mul-le-mul_right (width kind) h in omega (arith, div-mul-le_self 1008 (width kind))
@@ -154,3 +162,12 @@ module _ (kind : Kind) (bytes : List ℕ) (n : ℕ) (column : Column) (p : ArePa
       let same : kind ≡ column.kind = ap (λ (c : Column). c.kind) is in
       let here : IsCell column.kind (value_at (from + k) column.values) (cell_in kind page (first + k)) = rw (copied k h) (column_cell (from + k) (omega arith)) in
       subst (λ (c : Kind). IsCell column.kind (value_at (from + k) column.values) (cell_in c page (first + k))) same here
+
+  -- its first values are its first cells
+  pub column_first : (m : ℕ) (bytes' : List ℕ) → m ≤ length column.values → bytes' ≡ take (m * width kind) bytes → ArePacked kind bytes' m × (column_in kind bytes' m ≡ first_values m column)
+  column_first m bytes' h e =
+      let less : m ≤ n = omega (arith, column_long) in
+      let room : m * width kind ≤ length bytes = column_room m h in
+      let seen : values_in kind bytes' m ≡ take m (values_in kind bytes n) = ap (λ (b : List ℕ). values_in kind b m) e ∙ values_in-take kind bytes m ∙ values_in-first kind bytes n m less in
+      let step : column_in kind bytes' m ≡ first_values m (column_in kind bytes n) = ap (λ (us : List Value). record { kind = kind; values = us }) seen in
+      (rw e (packed-take kind bytes m room (λ i l. p.cells i (omega arith))), subst (λ (c : Column). column_in kind bytes' m ≡ first_values m c) is step)

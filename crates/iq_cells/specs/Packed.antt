@@ -49,6 +49,10 @@ value_at i vs = slice_index_or vs i values.Null
 abbrev pub with_more : Column → List Value → Column
 with_more column more = record column { values = column.values ++ more }
 
+-- the first values of a column
+abbrev pub first_values : ℕ → Column → Column
+first_values n column = record column { values = take n column.values }
+
 -- a column of the kind may hold each of the values
 abbrev pub AreOf : Kind → List Value → Type 0
 AreOf kind vs = (i : ℕ) → i < length vs → IsOf kind (value_at i vs)

@@ -1,12 +1,15 @@
 //! The cells of one column, one behind the other.
-ghost use Rattle.std.specs.Prelude.{◌≡◌, ◌<◌, ◌≤◌, [], ◌∷◌, ◌+◌, length, OnOk, OnErr, IfErr};
+ghost use Rattle.std.specs.Prelude.{◌≡◌, ◌↔◌, ◌<◌, ◌≤◌, [], ◌∷◌, ◌+◌, ◌^◌, length, IsTrue, IfOk, OnOk, OnErr, IfErr};
 ghost use Rattle.iq_base.specs.Cells.{IsOf, IsCell};
-ghost use Rattle.iq_cells.specs.Packed.{with_more, value_at, values_in, per_page, AreCells, HoldsValues, KeepsCells};
+ghost use Rattle.iq_cells.specs.Packed.{with_more, first_values, value_at, values_in, per_page, AreCells, HoldsValues, KeepsCells};
+ghost use Rattle.iq_cells.specs.Orders.{value_order};
 ghost use Rattle.iq_cells.specs.Faults.{HasCellsCause};
 
+use crate::orders::{cell_order, is_null_cell};
 use crate::packed::{are_cells, cell_of, copy_cells, put_behind};
 use iq_base::{Kind, NoMemory, Page, Value, cell_get, width};
 use std::alloc::{AllocError, Global};
+use std::cmp::Ordering;
 use std::marker::Model;
 
 /// Why cells aren't taken in.
@@ -39,6 +42,7 @@ impl Model for Cells {
 
 impl Cells {
     /// No values of a kind. It takes no memory.
+    #[tactic(auto, unfolding(crate::specs::Packed::values_in))]
     pub fn new(alloc: Global, kind: Kind) -> Cells
         ensures { result ≡ record { kind = kind; values = [] } }
     {
@@ -47,6 +51,19 @@ impl Cells {
             bytes: Vec::new(alloc),
             count: 0,
         }
+    }
+
+    /// No values of a kind, with memory for `count` of them.
+    #[tactic(auto, unfolding(crate::specs::Packed::values_in))]
+    pub fn with_room(alloc: Global, kind: Kind, count: usize) -> Result<Cells, NoMemory>
+        requires { count < 2 ^ 32 }
+        ensures { IfOk result (λ cells. cells ≡ record { kind = kind; values = [] }) }
+    {
+        Ok(Cells {
+            kind,
+            bytes: Vec::with_capacity(alloc, count * width(kind))?,
+            count: 0,
+        })
     }
 
     /// What the column may hold beside NULL.
@@ -61,6 +78,13 @@ impl Cells {
         ensures { result ≡ length self.now.values }
     {
         self.count
+    }
+
+    /// Whether there is no value.
+    pub fn is_empty(&self) -> bool
+        ensures { IsTrue result ↔ (length self.now.values ≡ 0) }
+    {
+        self.len() == 0
     }
 
     /// The bytes of a value's cell, as a page holds them.
@@ -80,6 +104,35 @@ impl Cells {
             Ok(value) => value,
             Err(_) => unreachable!(),
         }
+    }
+
+    /// Whether a value is NULL, by the first byte of its cell.
+    pub fn is_null(&self, i: usize) -> bool
+        requires { i < length self.now.values }
+        ensures { IsTrue result ↔ (value_at i self.now.values ≡ Value.Null) }
+    {
+        is_null_cell(self.kind(), self.cell(i))
+    }
+
+    /// Whether a value equals one of another column of the kind, which is where their bytes are equal.
+    pub fn is_equal(&self, i: usize, other: &Cells, j: usize) -> bool
+        requires kind { other.now.kind ≡ self.now.kind }
+        requires this { i < length self.now.values }
+        requires other { j < length other.now.values }
+        ensures { IsTrue result ↔ (value_at i self.now.values ≡ value_at j other.now.values) }
+    {
+        self.cell(i) == other.cell(j)
+    }
+
+    /// How a value stands to one of another column of the kind, in the order of values: NULL before numbers, and those before
+    /// texts; numbers by value, texts by their bytes. It makes no `Value`.
+    pub fn compare(&self, i: usize, other: &Cells, j: usize) -> Ordering
+        requires kind { other.now.kind ≡ self.now.kind }
+        requires this { i < length self.now.values }
+        requires other { j < length other.now.values }
+        ensures { result ≡ value_order (value_at i self.now.values) (value_at j other.now.values) }
+    {
+        cell_order(self.kind(), self.cell(i), other.cell(j))
     }
 
     /// Puts a value at the end. The column is as before where memory is wanting.
@@ -120,6 +173,15 @@ impl Cells {
         self.bytes.extend_from_slice(&page[..n * width(self.kind)])?;
         self.count += n;
         Ok(())
+    }
+
+    /// Takes values off the end, so that the first `n` stay. It keeps the memory.
+    pub fn truncate(&mut self, n: usize)
+        requires { n ≤ length self.old.values }
+        ensures { self.new ≡ first_values n self.old }
+    {
+        self.bytes.truncate(n * width(self.kind));
+        self.count = n;
     }
 
     /// Writes the cells of `n` values, from value `from` on, into a page, from its cell `first` on. The cells before that one
