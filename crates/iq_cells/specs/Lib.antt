@@ -6,3 +6,4 @@ pub mod Fields
 pub mod Faults
 pub mod Codes
 pub mod Tables
+pub mod Growing

@@ -2,13 +2,33 @@
 ghost use Rattle.std.specs.Prelude.{◌≡◌, ◌<◌, ◌^◌, length};
 ghost use Rattle.iq_cells.specs.Fields.{fits_int, fits_big, number_cause, text_cause, null_cause, field_cause, first_bad_value, first_bad_field};
 
-use iq_base::{Column, FieldCause, Kind, Value};
+use iq_base::{Column, FieldCause, Kind, NoMemory, Value};
 
 /// The first bad field of a row, counted from 1, and what is wrong with it; field 0 with `Count` for a wrong number of values.
 #[derive(Clone, Copy, Debug, PartialEq, Eq)]
 pub struct BadField {
     pub field: u32,
     pub cause: FieldCause,
+}
+
+/// Why a row isn't taken in.
+#[derive(Clone, Copy, Debug, PartialEq, Eq)]
+pub enum RowFault {
+    /// The first bad field.
+    Bad(BadField),
+    /// An allocation was refused.
+    NoMemory,
+}
+
+impl From<NoMemory> for RowFault {
+    ghost use Rattle.std.specs.Prelude.{◌≡◌};
+    ghost use Rattle.iq_cells.specs.declared.fields.RowFault.TheVariants as faults;
+
+    ghost from_gives = { λ _ e. e ≡ faults.NoMemory };
+
+    fn from(_: NoMemory) -> RowFault {
+        RowFault::NoMemory
+    }
 }
 
 /// The first bad field of a row that is to be put into columns; none where each column may hold its value. It looks at each

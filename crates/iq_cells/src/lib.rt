@@ -9,12 +9,15 @@
 mod cells;
 mod codes;
 mod fields;
+mod growing;
 mod orders;
 mod packed;
 mod rows;
 
 pub use cells::{Cells, CellsFault};
 pub use codes::{code_at, codes_of, decode, encode, put_code, put_codes};
-pub use fields::{BadField, field_cause, first_bad_field, null_cause, number_cause, text_cause};
+pub use fields::{
+    BadField, RowFault, field_cause, first_bad_field, null_cause, number_cause, text_cause,
+};
 pub use orders::value_order;
 pub use rows::Rows;
