@@ -1,5 +1,5 @@
 -- What is wrong with a row that is to be put into columns, and where: the first bad field.
-use Rattle.std.specs.Prelude.{ℕ, ℤ, pos, negsuc, ◌+◌, Bool, List, [], ◌∷◌, Option, Some, None, nat_lt, nat_le, nat_eq, length, if◌then◌else◌}
+use Rattle.std.specs.Prelude.{◌≡◌, ℕ, ℤ, pos, negsuc, ◌+◌, Bool, List, [], ◌∷◌, Option, Some, None, nat_lt, nat_le, nat_eq, length, if◌then◌else◌, IsUtf8, ⊤}
 use Rattle.std.specs.Option.{option_or}
 use Rattle.iq_base.specs.declared.values.Value.{Value}
 use Rattle.iq_base.specs.declared.values.Value.TheVariants as values
@@ -9,6 +9,8 @@ use Rattle.iq_base.specs.declared.schemas.Column.{Column}
 use Rattle.iq_base.specs.declared.refusals.FieldCause.{FieldCause}
 use Rattle.iq_base.specs.declared.refusals.FieldCause.TheVariants as causes
 use Rattle.iq_cells.specs.declared.fields.BadField.{BadField}
+use Rattle.iq_cells.specs.declared.fields.FieldFault.{FieldFault}
+use Rattle.iq_cells.specs.declared.fields.FieldFault.TheVariants as faults
 
 -- whether a whole number fits 32 bits with a sign
 abbrev pub fits_int : ℤ → Bool
@@ -58,3 +60,20 @@ first_bad_value field (column ∷ columns) (value ∷ values) =
 abbrev pub first_bad_field : List Column → List Value → Option BadField
 first_bad_field columns values =
     if nat_eq (length values) (length columns) then first_bad_value 1 columns values else Some (record { field = 0; cause = causes.Count })
+
+-- a number or a text isn't taken in only for its cause
+abbrev pub HasFieldCause : Option FieldCause → FieldFault → Type 0
+HasFieldCause cause (faults.Bad bad) = cause ≡ Some bad
+HasFieldCause cause faults.NoMemory = ⊤
+
+-- what is wrong with bytes that are to be a text in a column of this kind: what would be wrong with them as a text, and then
+-- that they are none
+abbrev pub HasBytesCause : Kind → List ℕ → FieldFault → Type 0
+HasBytesCause kind bytes (faults.Bad causes.Count) = text_cause kind bytes ≡ Some causes.Count
+HasBytesCause kind bytes (faults.Bad causes.NotNumber) = text_cause kind bytes ≡ Some causes.NotNumber
+HasBytesCause kind bytes (faults.Bad causes.NotText) = text_cause kind bytes ≡ Some causes.NotText
+HasBytesCause kind bytes (faults.Bad causes.Range) = text_cause kind bytes ≡ Some causes.Range
+HasBytesCause kind bytes (faults.Bad causes.NullRefused) = text_cause kind bytes ≡ Some causes.NullRefused
+HasBytesCause kind bytes (faults.Bad causes.TextTooLong) = text_cause kind bytes ≡ Some causes.TextTooLong
+HasBytesCause kind bytes (faults.Bad causes.NotUtf8) = (text_cause kind bytes ≡ None) × ¬ (IsUtf8 bytes)
+HasBytesCause kind bytes faults.NoMemory = ⊤

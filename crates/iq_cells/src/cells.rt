@@ -1,13 +1,15 @@
 //! The cells of one column, one behind the other.
-ghost use Rattle.std.specs.Prelude.{◌≡◌, ◌↔◌, ◌<◌, ◌≤◌, [], ◌∷◌, ◌+◌, ◌^◌, length, IsTrue, IfOk, OnOk, OnErr, IfErr};
+ghost use Rattle.std.specs.Prelude.{◌≡◌, ◌↔◌, ◌<◌, ◌≤◌, [], ◌∷◌, ◌+◌, ◌^◌, length, IsTrue, IsUtf8, None, IfOk, OnOk, OnErr, IfErr};
 ghost use Rattle.iq_base.specs.Cells.{IsOf, IsCell};
 ghost use Rattle.iq_cells.specs.Packed.{with_more, first_values, value_at, values_in, per_page, AreCells, HoldsValues, KeepsCells};
 ghost use Rattle.iq_cells.specs.Orders.{value_order};
+ghost use Rattle.iq_cells.specs.Fields.{number_cause, text_cause, HasFieldCause, HasBytesCause};
 ghost use Rattle.iq_cells.specs.Faults.{HasCellsCause};
 
+use crate::fields::{FieldFault, number_cause, text_cause};
 use crate::orders::{cell_order, is_null_cell};
-use crate::packed::{are_cells, cell_of, copy_cells, put_behind};
-use iq_base::{Kind, NoMemory, Page, Value, cell_get, width};
+use crate::packed::{are_cells, cell_of, copy_cells, put_behind, put_text_behind};
+use iq_base::{FieldCause, Kind, NoMemory, Page, Value, cell_get, width};
 use std::alloc::{AllocError, Global};
 use std::cmp::Ordering;
 use std::marker::Model;
@@ -142,6 +144,50 @@ impl Cells {
         ensures err { OnErr result (self.new ≡ self.old) }
     {
         put_behind(&mut self.bytes, self.kind, value)?;
+        self.count += 1;
+        Ok(())
+    }
+
+    /// Puts NULL at the end. The column is as before where memory is wanting.
+    pub fn push_null(&mut self) -> Result<(), NoMemory>
+        ensures ok { OnOk result (self.new ≡ with_more self.old (Value.Null ∷ [])) }
+        ensures err { OnErr result (self.new ≡ self.old) }
+    {
+        self.push(&Value::Null)
+    }
+
+    /// Puts a number at the end, or answers what is wrong with it: that the column is one of texts (`NotText`), or that the
+    /// number is past its type (`Range`). At an error the column is as before.
+    pub fn push_number(&mut self, number: i64) -> Result<(), FieldFault>
+        ensures ok { OnOk result (self.new ≡ with_more self.old (Value.Int number ∷ [])) }
+        ensures good { OnOk result (number_cause self.old.kind number ≡ None) }
+        ensures err { OnErr result (self.new ≡ self.old) }
+        ensures cause { IfErr result (HasFieldCause (number_cause self.old.kind number)) }
+    {
+        if let Some(cause) = number_cause(self.kind(), number) {
+            return Err(FieldFault::Bad(cause));
+        }
+        self.push(&Value::Int(number))?;
+        Ok(())
+    }
+
+    /// Puts the text of some bytes at the end, without a `Value` between, or answers what is wrong with them: that the column
+    /// is one of numbers (`NotNumber`), that they are too many (`TextTooLong`), or that they aren't UTF-8 (`NotUtf8`), in this
+    /// order. At an error the column is as before.
+    pub fn push_text(&mut self, bytes: &[u8]) -> Result<(), FieldFault>
+        ensures ok { OnOk result (self.new ≡ with_more self.old (Value.Text bytes.now ∷ [])) }
+        ensures good { OnOk result (text_cause self.old.kind bytes.now ≡ None) }
+        ensures utf8 { OnOk result (IsUtf8 bytes.now) }
+        ensures err { OnErr result (self.new ≡ self.old) }
+        ensures cause { IfErr result (HasBytesCause self.old.kind bytes.now) }
+    {
+        if let Some(cause) = text_cause(self.kind, bytes) {
+            return Err(FieldFault::Bad(cause));
+        }
+        if str::from_utf8(bytes).is_err() {
+            return Err(FieldFault::Bad(FieldCause::NotUtf8));
+        }
+        put_text_behind(&mut self.bytes, self.kind, bytes)?;
         self.count += 1;
         Ok(())
     }

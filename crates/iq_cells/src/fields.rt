@@ -11,6 +11,26 @@ pub struct BadField {
     pub cause: FieldCause,
 }
 
+/// Why a field isn't taken in.
+#[derive(Clone, Copy, Debug, PartialEq, Eq)]
+pub enum FieldFault {
+    /// What is wrong with it.
+    Bad(FieldCause),
+    /// An allocation was refused.
+    NoMemory,
+}
+
+impl From<NoMemory> for FieldFault {
+    ghost use Rattle.std.specs.Prelude.{◌≡◌};
+    ghost use Rattle.iq_cells.specs.declared.fields.FieldFault.TheVariants as faults;
+
+    ghost from_gives = { λ _ e. e ≡ faults.NoMemory };
+
+    fn from(_: NoMemory) -> FieldFault {
+        FieldFault::NoMemory
+    }
+}
+
 /// Why a row isn't taken in.
 #[derive(Clone, Copy, Debug, PartialEq, Eq)]
 pub enum RowFault {
@@ -54,7 +74,7 @@ pub fn field_cause(column: &Column, value: &Value) -> Option<FieldCause>
     match value {
         Value::Null => null_cause(column.null),
         Value::Int(number) => number_cause(column.kind, *number),
-        Value::Text(text) => text_cause(column.kind, text.as_str()),
+        Value::Text(text) => text_cause(column.kind, text.as_str().as_bytes()),
     }
 }
 
@@ -92,8 +112,8 @@ pub fn number_cause(kind: Kind, number: i64) -> Option<FieldCause>
     }
 }
 
-/// What is wrong with a text in a column of the kind.
-pub fn text_cause(kind: Kind, text: &str) -> Option<FieldCause>
+/// What is wrong with a text in a column of the kind, given its bytes.
+pub fn text_cause(kind: Kind, text: &[u8]) -> Option<FieldCause>
     ensures { result ≡ text_cause kind text.now }
 {
     match kind {

@@ -17,7 +17,8 @@ mod rows;
 pub use cells::{Cells, CellsFault};
 pub use codes::{code_at, codes_of, decode, encode, put_code, put_codes};
 pub use fields::{
-    BadField, RowFault, field_cause, first_bad_field, null_cause, number_cause, text_cause,
+    BadField, FieldFault, RowFault, field_cause, first_bad_field, null_cause, number_cause,
+    text_cause,
 };
 pub use orders::value_order;
 pub use rows::Rows;

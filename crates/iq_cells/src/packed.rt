@@ -1,7 +1,7 @@
 //! Bytes of cells that lie one behind the other.
-ghost use Rattle.std.specs.Prelude.{◌≡◌, ◌<◌, ◌≤◌, ℕ, ◌↔◌, ◌++◌, ◌+◌, ◌*◌, length, IsTrue, OnOk, OnErr};
+ghost use Rattle.std.specs.Prelude.{◌≡◌, ◌<◌, ◌≤◌, ◌↔◌, ◌∷◌, ◌++◌, ◌+◌, ◌-◌, ◌*◌, length, IsTrue, OnOk, OnErr};
 ghost use Rattle.iq_base.specs.declared.sizes.TheConstants.{PAGE_BYTES};
-ghost use Rattle.iq_base.specs.Cells.{width, IsOf, IsText, IsCell, cell};
+ghost use Rattle.iq_base.specs.Cells.{width, IsOf, IsText, IsCell, cell, padded};
 ghost use Rattle.iq_cells.specs.Packed.{cell_in, value_of_cell, AreCells, KeepsCells, CopiesCells};
 
 use iq_base::{Kind, NoMemory, Page, Value, cell_get, cell_put, width};
@@ -72,4 +72,29 @@ pub(crate) fn put_behind(bytes: &mut Vec<u8>, kind: Kind, value: &Value) -> Resu
     bytes.resize(at + width(kind), 0)?;
     cell_put(kind, value, &mut bytes[at..]);
     Ok(())
+}
+
+/// Puts the cell of a text behind the bytes. They are as before where memory is wanting.
+pub(crate) fn put_text_behind(bytes: &mut Vec<u8>, kind: Kind, text: &[u8]) -> Result<(), NoMemory>
+    requires { IsOf kind (Value.Text text.now) }
+    ensures ok { OnOk result (bytes.new.items ≡ bytes.old.items ++ cell kind (Value.Text text.now)) }
+    ensures err { OnErr result (bytes.new.items ≡ bytes.old.items) }
+{
+    let at = bytes.len();
+    bytes.resize(at + width(kind), 0)?;
+    text_put(text, &mut bytes[at..]);
+    Ok(())
+}
+
+// The length of a text, its bytes, and zeros to the end.
+fn text_put(text: &[u8], into: &mut [u8])
+    requires short { length text.now < 256 }
+    requires fits { length text.now + 2 ≤ length into.old }
+    ensures { into.new ≡ 1 ∷ padded (length into.old - 2) text.now }
+{
+    let (head, rest) = into.split_at_mut(2);
+    head.copy_from_slice(&[1, text.len() as u8]);
+    let (front, back) = rest.split_at_mut(text.len());
+    front.copy_from_slice(text);
+    back.fill(0);
 }
