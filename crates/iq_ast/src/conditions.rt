@@ -52,6 +52,14 @@ pub enum Test {
     },
 }
 
+/// Which rows of a test or a condition are asked for: those of which it is true, or those of which it is false. A row of which
+/// it is unknown is on neither side.
+#[derive(Clone, Copy, Debug, PartialEq, Eq)]
+pub enum Side {
+    True,
+    False,
+}
+
 /// A condition. `And` and `Or` have two members or more, in text order.
 #[derive(Debug, Drop)]
 #[cycle(cond)]

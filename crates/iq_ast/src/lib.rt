@@ -7,5 +7,5 @@
 mod conditions;
 mod statements;
 
-pub use conditions::{Bound, Cond, Op, Test};
+pub use conditions::{Bound, Cond, Op, Side, Test};
 pub use statements::{Change, Item, Order, Select, Statement, Write};
