@@ -3,8 +3,8 @@ use Rattle.std.proofs.Common.{◌≡◌, ◌<◌, ◌≤◌, ℕ, zero, suc, ◌
 use Rattle.std.specs.Int.{byte_at, bytes_low_first}
 use Rattle.std.proofs.Math.Nat.{div-one, div-div-eq-div-mul, pow-suc, mul-le-mul_right, div-mul-le_self}
 use Rattle.std.proofs.lemmas.Bool.{cases_lt}
-use Rattle.std.proofs.lemmas.List.{ext_get_or, get_or_past, get_or-map, get_or-take, get_or-drop, length-map, map-append, length-append, length-take, length-drop, get_or-append-add}
-use Rattle.std.proofs.lemmas.List.FromFn.{length-map-range_with_len, get_or-map-range_with_len}
+use Rattle.std.proofs.lemmas.List.{ext_get_or, get_or_past, get_or-map, get_or-take, get_or-drop, length-map, map-append, length-append, length-take, length-drop, get_or_append_left, get_or_at}
+use Rattle.std.proofs.lemmas.List.FromFn.{length-map-range_with_len, get_or-map-range_with_len, map-range_with_len_more}
 use Rattle.byteorder.specs.Endian.{little_from, little_number, little_bytes}
 use Rattle.byteorder.specs.Numbers.{little_from-cons}
 use Rattle.iq_base.specs.declared.values.Kind.{Kind}
@@ -15,8 +15,7 @@ use Rattle.iq_cells.specs.Packed.{Column, with_more, values_in, AreCells}
 use Rattle.iq_cells.specs.Codes.{code_in, codes_in, codes_per_page}
 use Rattle.iq_cells.proofs.PackedLaws.{length-values_in, value_at-values_in}
 use Rattle.iq_pieces.specs.Objects.{pieces_in}
-use Rattle.iq_pieces.specs.Faults.{ArePieces, CodesBelow}
-use Rattle.iq_pieces.specs.Codes.{AreBelowFrom}
+use Rattle.iq_pieces.specs.Codes.{AreBelow}
 use Rattle.iq_pieces.proofs.PagesTaken.{length-pieces_in, piece_at-pieces_in}
 
 -- the cells of the values of a page's first cells are these
@@ -44,16 +43,21 @@ code_at-codes_in : (w : ℕ) (page : List ℕ) (n i : ℕ) → i < n → slice_i
 unfolding codes_in
 code_at-codes_in w page n i h = get_or-map-range_with_len (code_in w page) 0 n i i 0 h (omega arith)
 
--- where the page's pieces are codes below a number, so are those that came behind others
-pub codes_below : (w bound : ℕ) (page old new : List ℕ) (n : ℕ) → new ≡ old ++ codes_in w page n → ArePieces (CodesBelow w bound) page n → AreBelowFrom new (length old) bound
-codes_below w bound page old new n is are = λ k from less.
-    let long : length new ≡ length old + n = ap length is ∙ length-append old (codes_in w page n) ∙ ap (λ (m : ℕ). length old + m) (length-codes_in w page n) in
-    let place : length old + (k - length old) ≡ k = omega arith in
-    let within : k - length old < n = omega arith in
-    let code : slice_index new k ≡ code_in w page (k - length old) =
-    ap (λ (xs : List ℕ). slice_index xs k) is ∙ ap (slice_index (old ++ codes_in w page n)) (sym place)
-    ∙ get_or-append-add old (codes_in w page n) (k - length old) 0 ∙ code_at-codes_in w page n (k - length old) within in
-    rw code (are (k - length old) within)
+-- the codes of no pieces, and of one more
+pub codes_none : (w : ℕ) (page : List ℕ) → codes_in w page 0 ≡ []
+unfolding codes_in
+codes_none w page = refl
+
+pub codes_more : (w : ℕ) (page : List ℕ) (n : ℕ) → codes_in w page (n + 1) ≡ codes_in w page n ++ code_in w page n ∷ []
+unfolding codes_in
+codes_more w page n = map-range_with_len_more (code_in w page) 0 n n (omega arith)
+
+-- a list of codes below a number with one more
+pub below_push : (codes : List ℕ) (code below : ℕ) → AreBelow codes below → code < below → AreBelow (codes ++ code ∷ []) below
+below_push codes code below are h = λ k l. elim (cases_lt k (length codes)) [
+  | inl less ↦ (let e = get_or_append_left codes (code ∷ []) 0 k less in rw e (are k less))
+  | inr more ↦ (let at : length codes ≡ k = omega (arith, length-append codes (code ∷ [])) in let e = get_or_at codes code [] 0 k at in rw e h)
+]
 
 -- a byte of a number, by its place
 byte_at-pow : (k x : ℕ) → byte_at k x ≡ x / 256 ^ k % 256

@@ -1,21 +1,21 @@
 //! Codes of W bytes, which come from pages.
-ghost use Rattle.std.specs.Prelude.{◌≡◌, ◌<◌, ◌≤◌, ◌↔◌, ◌++◌, ℕ, [], map, slice_index, IsTrue, OnOk};
+ghost use Rattle.std.specs.Prelude.{◌≡◌, ◌<◌, ◌≤◌, ◌++◌, ◌∷◌, ℕ, [], map, slice_index, OnOk};
 ghost use Rattle.byteorder.specs.Endian.{little_bytes};
-ghost use Rattle.iq_cells.specs.Codes.{codes_in, codes_per_page};
 ghost use Rattle.iq_pieces.specs.Faults.{CodesBelow};
-ghost use Rattle.iq_pieces.specs.Codes.{AreBelowFrom};
+ghost use Rattle.iq_pieces.specs.Codes.{AreBelow};
 
 use crate::taking::{PieceFault, Takes};
 use iq_base::{NoMemory, Page};
-use iq_cells::codes_of;
+use iq_cells::code_at;
 use std::alloc::Global;
 
 /// Codes that pages keep in W bytes each, the lowest first: W is 1, 2 or 3. Each is below a number.
 #[derive(Drop)]
 pub struct CodeList<const W: usize> {
-    pub codes: Vec<u32>,
+    codes: Vec<u32>,
     below: u32,
     ghost narrow: { (1 ≤ W) × (W ≤ 3) },
+    ghost low: { AreBelow codes.items below },
 }
 
 impl<const W: usize> CodeList<W> {
@@ -30,6 +30,15 @@ impl<const W: usize> CodeList<W> {
             below,
         }
     }
+
+    /// The codes that came.
+    pub fn into_codes(self) -> Vec<u32>
+        ensures codes { result.items ≡ self.entry.codes.items }
+        ensures low { AreBelow result.items self.entry.below }
+    {
+        let CodeList { codes, below: _ } = self;
+        codes
+    }
 }
 
 impl<const W: usize> Takes for CodeList<W> {
@@ -42,34 +51,30 @@ impl<const W: usize> Takes for CodeList<W> {
     }
 
     fn take(&mut self, page: &Page, n: usize) -> Result<(), PieceFault> {
-        let from = self.codes.len();
-        push_codes::<W>(page, n, &mut self.codes)?;
-        if are_below(&self.codes, from, self.below) {
-            Ok(())
-        } else {
-            Err(PieceFault::BadPiece)
+        let _bytes = are_bytes(page);
+        for i in 0..n {
+            let code = code_at::<W>(page, i);
+            if code >= self.below {
+                return Err(PieceFault::BadPiece);
+            }
+            push(&mut self.codes, code)?;
         }
+        Ok(())
     }
 }
 
-/// Puts the first codes of a page, whose bytes are bytes, at the end of a list.
-fn push_codes<const W: usize>(page: &Page, n: usize, codes: &mut Vec<u32>) -> Result<(), NoMemory>
-    requires width { (1 ≤ W) × (W ≤ 3) }
-    requires within { n ≤ codes_per_page W }
-    ensures ok { OnOk result (codes.new.items ≡ codes.old.items ++ codes_in W page.now n) }
-    ensures bytes { (k : ℕ) → slice_index page.now k < 256 }
+/// Puts a code at the end of a list.
+fn push(codes: &mut Vec<u32>, code: u32) -> Result<(), NoMemory>
+    ensures ok { OnOk result (codes.new.items ≡ codes.old.items ++ code ∷ []) }
+    ensures low { (below : ℕ) → AreBelow codes.old.items below → code < below → AreBelow codes.new.items below }
 {
-    codes_of::<W>(page, n, codes)
+    codes.push(code)?;
+    Ok(())
 }
 
-/// Whether each number from a place on is below another.
-fn are_below(codes: &[u32], from: usize, below: u32) -> bool
-    ensures { IsTrue result ↔ AreBelowFrom codes.now from below }
+/// Nothing: the bytes of a page are bytes, which its type tells.
+fn are_bytes(page: &Page)
+    ensures { (k : ℕ) → slice_index page.now k < 256 }
 {
-    for k in from..codes.len() {
-        if codes[k] >= below {
-            return false;
-        }
-    }
-    true
+    let _byte = code_at::<1>(page, 0);
 }
