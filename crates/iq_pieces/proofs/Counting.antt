@@ -1,10 +1,11 @@
 -- Counts of pages, and calls that follow one another.
-use Rattle.std.proofs.Common.{◌≡◌, ◌≢◌, ◌<◌, ◌≤◌, ℕ, zero, suc, ◌+◌, ◌-◌, ◌*◌, ◌/◌, ◌%◌, min, inl, inr, Option, Some, None, refl, sym, ap, ◌∙◌, arith}
+use Rattle.std.proofs.Common.{◌≡◌, ◌≢◌, ◌<◌, ◌≤◌, ℕ, zero, suc, ◌+◌, ◌-◌, ◌*◌, ◌/◌, ◌%◌, min, inl, inr, List, [], Option, Some, None, zero-add, refl, sym, ap, ◌∙◌, arith}
 use Rattle.std.proofs.Math.Nat.{mul-le-mul_left, mul_comm}
 use Rattle.std.proofs.lemmas.Bool.{cases_lt}
 use Rattle.std.proofs.lemmas.Grind.{div_ceil_times}
+use Rattle.std.specs.Option.{option_map}
 use Rattle.iq_outside.specs.Faults.{RoseWithin}
-use Rattle.iq_pages.specs.Pages.{Seen, CountsMore, KeepsObjects, HasCause}
+use Rattle.iq_pages.specs.Pages.{Pages, Seen, CountsMore, KeepsObjects, HasCause}
 use Rattle.iq_pages.specs.declared.page_faults.PageFault.{PageFault}
 use Rattle.iq_pages.specs.declared.page_faults.PageFault.TheVariants.{Failed, BadPage, NoMemory}
 use Rattle.iq_pages.proofs.PageLaws.{rose_since, counts_on}
@@ -101,3 +102,18 @@ page_within per n more end some is = elim (cases_lt end (n / per)) [
 -- one more page was counted
 pub counted_next : (p from : ℕ) (a b c : Option ℕ) → from ≤ p → CountsMore (p - from) a b → CountsMore 1 b c → CountsMore (p + 1 - from) a c
 counted_next p from a b c l m n = let e : p - from + 1 ≡ p + 1 - from = omega arith in rw e at (counts_on (p - from) 1 a b c m n)
+
+-- a cause of the sink's own, where the object is told now only if it was before
+pub own_cause : (object : ℕ) (a b c : Seen) (fault : PageFault) → (b.told object ≡ None → a.told object ≡ None) → a.faults ≤ b.faults → HasCause object b c fault → HasCause object a c fault
+own_cause object a b c (Failed x y) dark l h = rose_since _ _ _ _ _ l h
+own_cause object a b c (BadPage named page) dark l h = (h.0, dark h.1)
+own_cause object a b c NoMemory dark l h = tt
+
+-- where an object is made anew, it is told only if it was before
+pub anew_dark : (told told' : Option Pages) → told' ≡ option_map (λ (pages : Pages). []) told → told' ≡ None → told ≡ None
+anew_dark None told' is none = refl
+anew_dark (Some pages) told' is none = absurd (cc)
+
+-- nothing was counted, and then so many
+pub counted_behind : (n : ℕ) (a b c : Option ℕ) → CountsMore 0 a b → CountsMore n b c → CountsMore n a c
+counted_behind n a b c p q = rw zero-add at (counts_on 0 n a b c p q)

@@ -1,6 +1,7 @@
 -- Putting pieces behind those of an object, a page at a time.
-use Rattle.std.proofs.Common.{◌≡◌, ◌<◌, ◌≤◌, ℕ, ◌+◌, ◌-◌, ◌*◌, ◌/◌, ◌%◌, min, max, inl, inr, List, [], ◌++◌, take, drop, append_assoc, append-nil, Option, length, sym, ap, ◌∙◌, arith}
-use Rattle.std.proofs.Math.Nat.{mul-le-mul_left}
+use Rattle.std.proofs.Common.{◌≡◌, ◌<◌, ◌≤◌, ℕ, ◌+◌, ◌-◌, ◌*◌, ◌/◌, ◌%◌, min, max, inl, inr, List, [], ◌++◌, take, drop, append_assoc, append-nil, Option, Some, length, refl, sym, ap, ◌∙◌, arith}
+use Rattle.std.specs.Option.{option_map}
+use Rattle.std.proofs.Math.Nat.{mul-le-mul_left, zero-mod}
 use Rattle.std.proofs.Math.Seq.{take-add}
 use Rattle.std.proofs.lemmas.Bool.{cases_lt}
 use Rattle.std.proofs.lemmas.List.{get_or_append_left, length-append, length-take, take_all, nil_from_length}
@@ -8,7 +9,7 @@ use Rattle.std.proofs.lemmas.Option.{get_or_from_slice_get}
 use Rattle.iq_cells.specs.Pieces.{piece_in}
 use Rattle.iq_pages.specs.Pages.{Pages, IsPageOf}
 use Rattle.iq_pieces.specs.Counts.{per_page}
-use Rattle.iq_pieces.specs.Objects.{piece_at, page_at, HoldsObject, BeginsAs, LoadsLast, AppendsBehind, AddsPage, Appends}
+use Rattle.iq_pieces.specs.Objects.{piece_at, page_at, Holds, HoldsObject, HoldsAnew, BeginsAs, LoadsLast, AppendsBehind, AddsPage, Appends}
 
 -- before the first page
 pub behind_none : (w start n : ℕ) (last : List ℕ) (xs : List (List ℕ)) (told : Option Pages) → n ≡ 0 → AppendsBehind w start last (take n xs) told told
@@ -78,3 +79,21 @@ loads_none w count told page full = λ pieces e h j less. absurd (omega arith)
 -- a page that was read stands for the last one
 pub appends_loaded : (w count : ℕ) (last : List ℕ) (xs : List (List ℕ)) (told between told' : Option Pages) → between ≡ told → LoadsLast w count told last → AppendsBehind w count last xs between told' → Appends w count xs told told'
 appends_loaded w count last xs told between told' same loads p = λ pieces e h. p pieces e (loads pieces e h) (rw same h)
+
+-- an object without pages holds no pieces
+empty_holds : (w : ℕ) → 0 < per_page w → Holds w [] []
+empty_holds w some = record {
+  enough = omega arith;
+  no_more = omega arith;
+  held = λ p i h l. absurd (omega arith);
+}
+
+-- an object that was made anew holds what was put behind nothing
+pub holds_anew : (w : ℕ) (last : List ℕ) (xs : List (List ℕ)) (told between told' : Option Pages) → 0 < per_page w → between ≡ option_map (λ (pages : Pages). []) told → AppendsBehind w 0 last xs between told' → HoldsAnew w xs told told'
+holds_anew w last xs told between told' some is p = λ pages e.
+    let anew : between ≡ Some [] = is ∙ ap (option_map (λ (ps : Pages). [])) e in
+    p [] refl (λ j h. absurd (let none : 0 % per_page w ≡ 0 = zero-mod (per_page w) in omega arith)) (record { pages = []; told_is = anew; holds = empty_holds w some })
+
+-- and nothing where nothing is put
+pub nothing_behind : (w : ℕ) (last : List ℕ) (xs : List (List ℕ)) (told : Option Pages) → length xs ≡ 0 → AppendsBehind w 0 last xs told told
+nothing_behind w last xs told none = λ pieces e begins h. rw (nil_from_length xs none, append-nil) h

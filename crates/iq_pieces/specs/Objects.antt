@@ -53,6 +53,10 @@ LoadsLast w count told page = (pieces : List (List ℕ)) → length pieces ≡ c
 abbrev pub AppendsBehind : ℕ → ℕ → List ℕ → List (List ℕ) → Option Pages → Option Pages → Type 0
 AppendsBehind w count last more before after = (pieces : List (List ℕ)) → length pieces ≡ count → BeginsAs w count last pieces → HoldsObject before w pieces → HoldsObject after w (pieces ++ more)
 
+-- where the pages of an object are told, it holds these pieces and nothing else afterwards
+abbrev pub HoldsAnew : ℕ → List (List ℕ) → Option Pages → Option Pages → Type 0
+HoldsAnew w pieces before after = (pages : Pages) → before ≡ Some pages → HoldsObject after w pieces
+
 -- a list of pages with one of them, or the one behind them, written
 abbrev pub put_page : ℕ → List ℕ → Pages → Pages
 put_page n page pages = take n pages ++ page ∷ drop (n + 1) pages

@@ -4,7 +4,7 @@ ghost use Rattle.iq_base.specs.declared.sizes.TheConstants.{MOST_PAGES};
 ghost use Rattle.iq_pages.specs.PageCalls.{view};
 ghost use Rattle.iq_pages.specs.Pages.{CountsMore, HasCause};
 ghost use Rattle.iq_pieces.specs.Counts.{per_page, pages_changed, CountsUpTo, KeepsOthers, OnlyReads};
-ghost use Rattle.iq_pieces.specs.Objects.{Appends, AppendsBehind, AddsPage, LoadsLast};
+ghost use Rattle.iq_pieces.specs.Objects.{Appends, AppendsBehind, AddsPage, LoadsLast, HoldsAnew};
 ghost use Rattle.iq_pieces.specs.Faults.{HasPageCause};
 
 use crate::pages::{read_page, save_page};
@@ -87,6 +87,30 @@ pub fn append_behind<S: PageSink, P: Pieces>(
     fill_pages(sink, object, count as usize, items, last)
 }
 
+/// Makes an object anew, so that it holds pieces and nothing else. No page is read, and each page is written once. After an `Err` some of
+/// these may be written.
+pub fn rewrite<S: PageSink, P: Pieces>(
+    sink: &mut S,
+    object: u32,
+    items: &P,
+) -> Result<(), PageFault>
+    requires small { length (P.pieces items.now) < 2 ^ 32 }
+    requires room { length (P.pieces items.now) ≤ per_page (P.width items.now) * MOST_PAGES }
+    ensures ok { OnOk result (HoldsAnew (P.width items.now) (P.pieces items.now) (S.told sink.old object) (S.told sink.new object)) }
+    ensures others { KeepsOthers object (view S.PageSource sink.old) (view S.PageSource sink.new) }
+    ensures reads { S.reads sink.new ≡ S.reads sink.old }
+    ensures written { OnOk result (CountsMore (pages_changed (P.width items.now) 0 (length (P.pieces items.now))) (S.writes sink.old) (S.writes sink.new)) }
+    ensures later { S.faults sink.old ≤ S.faults sink.new }
+    ensures cause { IfErr result (HasPageCause object (view S.PageSource sink.old) (view S.PageSource sink.new)) }
+{
+    let _width = items.width();
+    sink.new_object(object)?;
+    if items.count() == 0 {
+        return Ok(());
+    }
+    fill_pages(sink, object, 0, items, &[0; PAGE_BYTES])
+}
+
 /// Writes the pages from the one of the first new piece on.
 fn fill_pages<S: PageSink, P: Pieces>(
     sink: &mut S,
@@ -105,7 +129,7 @@ fn fill_pages<S: PageSink, P: Pieces>(
     ensures written { OnOk result (CountsMore (pages_changed (P.width items.now) start (length (P.pieces items.now))) (S.writes sink.old) (S.writes sink.new)) }
     ensures unwritten { CountsUpTo (pages_changed (P.width items.now) start (length (P.pieces items.now))) (S.writes sink.old) (S.writes sink.new) }
     ensures later { S.faults sink.old ≤ S.faults sink.new }
-    ensures cause { IfErr result (HasPageCause object (view S.PageSource sink.old) (view S.PageSource sink.new)) }
+    ensures cause { IfErr result (HasCause object (view S.PageSource sink.old) (view S.PageSource sink.new)) }
 {
     let per = PAGE_BYTES / items.width();
     let end = start + items.count();
