@@ -1,5 +1,5 @@
 //! Numbering the values of a column.
-ghost use Rattle.std.specs.Prelude.{◌≡◌, ◌<◌, ◌+◌, ◌^◌, length, IfOk, OnOk};
+ghost use Rattle.std.specs.Prelude.{◌≡◌, ◌<◌, ◌≤◌, ◌+◌, ◌^◌, length, IfOk, OnOk};
 ghost use Rattle.iq_cells.specs.Packed.{value_at};
 ghost use Rattle.iq_numbering.specs.Numbers.{AreDistinct, IsNumbered, HasKeys, NumbersNext};
 
@@ -25,6 +25,7 @@ pub fn number(alloc: Global, known: &Cells, cells: &Cells) -> Result<Numbered, N
     requires distinct { AreDistinct known.now.values }
     requires few { length known.now.values + length cells.now.values < 2 ^ 32 }
     ensures kind { IfOk result (λ r. r.new.kind ≡ cells.now.kind) }
+    ensures few { IfOk result (λ r. length r.new.values ≤ length cells.now.values) }
     ensures ok { IfOk result (λ r.
         IsNumbered known.now.values cells.now.values r.new.values r.codes.items) }
 {

@@ -1,0 +1,110 @@
+-- What the calls on a column give, and why they fail.
+use Rattle.std.specs.Prelude.{◌≡◌, ◌≢◌, ◌<◌, ◌≤◌, ℕ, ◌+◌, ◌-◌, ◌*◌, ◌^◌, max, List, ◌++◌, ◌⊎◌, Option, Some, None, length, map, nat_eq, slice_index, if◌then◌else◌, ⊤}
+use Rattle.byteorder.specs.Endian.{little_bytes}
+use Rattle.iq_pieces.specs.Codes.{AreBelow}
+use Rattle.iq_base.specs.declared.values.Value.{Value}
+use Rattle.iq_base.specs.Cells.{width, cell}
+use Rattle.iq_outside.specs.Faults.{RoseWithin}
+use Rattle.iq_pages.specs.declared.page_faults.PageFault.{PageFault}
+use Rattle.iq_pages.specs.declared.page_faults.PageFault.TheVariants.{Failed, BadPage, NoMemory}
+use Rattle.iq_pages.specs.Pages.{Pages, Seen, CountsMore}
+use Rattle.iq_base.specs.declared.sizes.TheConstants.{MOST_PAGES}
+use Rattle.iq_cells.specs.Packed.{Column, value_at}
+use Rattle.iq_numbering.specs.declared.places.Numbered.{Numbered}
+use Rattle.iq_pieces.specs.Counts.{per_page, pages_for, pages_changed, CountsUpTo}
+use Rattle.iq_pieces.specs.Faults.{CellsOf, CodesBelow, HasSoundPage}
+use Rattle.iq_numbering.specs.Numbers.{AreDistinct}
+use Rattle.iq_fp.specs.declared.fp.Fp.{Fp}
+use Rattle.iq_fp.specs.Forms.{code_width}
+use Rattle.iq_pieces.specs.Objects.{HoldsObject}
+use Rattle.iq_fp.specs.Stands.{Stands, HaveCells}
+
+-- the value of a row, whatever values the column stands for
+abbrev pub IsValueOf : Fp → (ℕ → Option Pages) → ℕ → Value → Type 0
+IsValueOf fp told row value = (values : List Value) → Stands fp told values → value ≡ value_at row values
+
+-- the distinct values, whatever values the column stands for
+abbrev pub AreKnown : Fp → (ℕ → Option Pages) → List Value → Type 0
+AreKnown fp told known = (values : List Value) (stands : Stands fp told values) → known ≡ stands.known
+
+-- the codes, whatever values the column stands for
+abbrev pub AreCodesOf : Fp → (ℕ → Option Pages) → List ℕ → Type 0
+AreCodesOf fp told codes = (values : List Value) (stands : Stands fp told values) → codes ≡ stands.codes
+
+-- all values, whatever they are
+abbrev pub AreValuesOf : Fp → (ℕ → Option Pages) → List Value → Type 0
+AreValuesOf fp told got = (values : List Value) → Stands fp told values → got ≡ values
+
+-- whatever values the column stands for, it stands for more afterwards
+abbrev pub StandsForMore : Fp → Fp → List Value → (ℕ → Option Pages) → (ℕ → Option Pages) → Type 0
+StandsForMore old new more before after = (values : List Value) → Stands old before values → Stands new after (values ++ more)
+
+-- why a column isn't read: the store failed; or the page that the fault names isn't told, isn't there, or has bytes that are no
+-- codes below the number of distinct values, or no cells of the kind
+abbrev pub HasReadCause : Fp → Seen → Seen → PageFault → Type 0
+HasReadCause fp before after (Failed x y) = RoseWithin before.faults x y after.faults
+HasReadCause fp before after (BadPage named page) = ((named ≡ fp.codes) × ¬ (HasSoundPage (CodesBelow (code_width fp.distinct) fp.distinct) fp.slots (before.told fp.codes) page)) ⊎ ((named ≡ fp.values) × ¬ (HasSoundPage (CellsOf fp.kind) fp.distinct (before.told fp.values) page))
+HasReadCause fp before after NoMemory = ⊤
+
+-- how many pages have all codes and all distinct values
+abbrev pub all_pages : Fp → ℕ
+all_pages fp = pages_for (width fp.kind) fp.distinct + pages_for (code_width fp.distinct) fp.slots
+
+-- a place at which a value stands that stands before it too, or none where no value stands twice
+abbrev pub IsRepeat : List Value → Option ℕ → Type 0
+IsRepeat vs None = AreDistinct vs
+IsRepeat vs (Some place) = (place < length vs) × ¬ (AreDistinct vs)
+
+-- the told pages stand for no values
+abbrev pub StandsForNone : Fp → (ℕ → Option Pages) → Type 0
+StandsForNone fp told = (values : List Value) → ¬ (Stands fp told values)
+
+-- why a column isn't appended to: as it isn't read, or its distinct values repeat one, so that the pages stand for no values
+abbrev pub HasAppendCause : Fp → Seen → Seen → PageFault → Type 0
+HasAppendCause fp before after (Failed x y) = RoseWithin before.faults x y after.faults
+HasAppendCause fp before after (BadPage named page) = HasReadCause fp before after (BadPage named page) ⊎ ((named ≡ fp.values) × StandsForNone fp before.told)
+HasAppendCause fp before after NoMemory = ⊤
+
+-- what changed of a column: its two objects, and every other object has the pages that it had
+pub record KeepsOtherObjects (fp : Fp) (before after : Seen) : Type 0 where
+  pub told : (other : ℕ) → other ≢ fp.codes → other ≢ fp.values → after.told other ≡ before.told other
+  pub counts : (other : ℕ) → other ≢ fp.codes → other ≢ fp.values → after.counts other ≡ before.counts other
+
+-- how many pages an append writes: those of values that change, and those of codes, all of them where their form changes
+abbrev pub pages_written : Fp → Fp → ℕ
+pages_written old new = pages_changed (width old.kind) old.distinct (new.distinct - old.distinct)
+    + (if nat_eq (code_width old.distinct) (code_width new.distinct) then pages_changed (code_width old.distinct) old.slots (new.slots - old.slots) else pages_changed (code_width new.distinct) 0 new.slots)
+
+-- how many it reads at most: all of values, and the last of codes, or all where their form changes
+abbrev pub pages_read : Fp → ℕ
+pages_read old = pages_for (width old.kind) old.distinct + max 1 (pages_for (code_width old.distinct) old.slots)
+
+-- the objects and the kind of a column stay
+pub record SameObjects (old new : Fp) : Type 0 where
+  pub codes : new.codes ≡ old.codes
+  pub values : new.values ≡ old.values
+  pub kind : new.kind ≡ old.kind
+
+-- a column with more rows and more distinct values: the codes of the rows, numbered behind the known values
+pub record IsGrown (old new : Fp) (known : Column) (numbered : Numbered) : Type 0 where
+  pub objects : SameObjects old new
+  pub apart : old.codes ≢ old.values
+  pub known_kind : known.kind ≡ old.kind
+  pub fresh_kind : numbered.new.kind ≡ old.kind
+  pub before : length known.values ≡ old.distinct
+  pub distinct : new.distinct ≡ old.distinct + length numbered.new.values
+  pub slots : new.slots ≡ old.slots + length numbered.codes.items
+  pub below : AreBelow numbered.codes.items new.distinct
+  pub few : new.distinct ≤ 256 ^ 3
+  pub rows : new.slots ≤ 256 ^ 3
+  pub room : new.distinct ≤ per_page (width old.kind) * MOST_PAGES
+
+-- all codes, whatever values the column stands for, and more behind them
+abbrev pub GoOn : Fp → (ℕ → Option Pages) → List ℕ → List ℕ → Type 0
+GoOn fp told more all = (values : List Value) (stands : Stands fp told values) → all ≡ stands.codes ++ more
+
+-- an append whose parts were written, from what was seen before to what is seen afterwards
+pub record WritesParts (old new : Fp) (known fresh : List Value) (more : List ℕ) (before after : Seen) : Type 0 where
+  pub values : HoldsObject (before.told old.values) (width old.kind) (map (cell old.kind) known) → HoldsObject (after.told old.values) (width old.kind) (map (cell old.kind) known ++ map (cell old.kind) fresh)
+  pub codes : (values : List Value) (stands : Stands old before.told values) → HoldsObject (after.told old.codes) (code_width new.distinct) (map (little_bytes (code_width new.distinct)) (stands.codes ++ more))
+  pub written : CountsMore (pages_written old new) before.writes after.writes
