@@ -1,7 +1,7 @@
 //! Runs compared with the plain program, which computes the definitions on lists; what it answers is printed here by hand.
-use iq_base::{Answer, FieldCause, Out, Refusal};
+use iq_base::{FieldCause, Refusal};
 use iq_history::Entry;
-use iq_model::{Reply, Said};
+use iq_model::{Answer, Out, Reply, Said};
 use iq_outside::{SureDevice, SureSink};
 use iq_plain::plain_replies;
 use iq_run::step_run;
