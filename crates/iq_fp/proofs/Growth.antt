@@ -152,6 +152,11 @@ values_are fp told values stands =
     ext_get_or Null (map (λ (code : ℕ). value_at code stands.known) stands.codes) values long
     (λ i h. get_or-map (λ (code : ℕ). value_at code stands.known) stands.codes i 0 Null (omega (arith, long, stands.numbered.long)) ∙ (stands.numbered.each i (omega (arith, long))).there)
 
+-- so the distinct value at the code of a row is the row's
+pub value_of_row : (fp : Fp) (told : ℕ → Option Pages) (values : List Value) (stands : Stands fp told values) (row code : ℕ) (v : Value) → row < fp.slots → code ≡ slice_index stands.codes row → v ≡ value_at code stands.known → v ≡ value_at row values
+value_of_row fp told values stands row code v less is there =
+    there ∙ ap (λ (n : ℕ). value_at n stands.known) is ∙ (stands.numbered.each row (omega (arith, stands.slots))).there
+
 -- what a column stands for depends only on the pages of its two objects
 abbrev pub stands_there : (fp : Fp) (told told' : ℕ → Option Pages) (values : List Value) → told' fp.codes ≡ told fp.codes → told' fp.values ≡ told fp.values → Stands fp told values → Stands fp told' values
 stands_there fp told told' values ec ev s = record {

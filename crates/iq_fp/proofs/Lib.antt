@@ -1,3 +1,4 @@
 pub mod Readings
 pub mod Growth
 pub mod Repeats
+pub mod OnPages

@@ -1,3 +1,4 @@
 pub mod Forms
 pub mod Stands
 pub mod Calls
+pub mod Scans

@@ -9,7 +9,9 @@ mod appending;
 mod distinct;
 mod expanding;
 mod fp;
+mod one_row;
 mod parts;
 mod reading;
+mod scanning;
 
 pub use fp::{Form, Fp, code_bytes, form_of};
