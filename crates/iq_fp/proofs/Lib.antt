@@ -2,3 +2,5 @@ pub mod Readings
 pub mod Growth
 pub mod Repeats
 pub mod OnPages
+pub mod Chosen
+pub mod Pairs

@@ -1,5 +1,5 @@
 -- What is read of a column: one value, the rows on a side of a test, and the values of chosen rows.
-use Rattle.std.specs.Prelude.{◌≡◌, ◌≢◌, ◌<◌, ◌≤◌, ℕ, ◌+◌, ◌-◌, Bool, true, false, List, ◌⊎◌, Option, length, map, slice_index, slice_index_or}
+use Rattle.std.specs.Prelude.{◌≡◌, ◌<◌, ℕ, zero, suc, ◌+◌, ◌-◌, Bool, false, if◌then◌else◌, List, [], ◌∷◌, ◌⊎◌, Option, map, slice_index, slice_index_or}
 use Rattle.std.specs.Simd.Lanes.{zip2}
 use Rattle.iq_base.specs.declared.values.Value.{Value}
 use Rattle.iq_ast.specs.declared.conditions.Op.{Op}
@@ -15,7 +15,7 @@ use Rattle.iq_cells.specs.Packed.{value_at}
 use Rattle.iq_cells.specs.Codes.{code_in}
 use Rattle.iq_fp.specs.declared.fp.Fp.{Fp}
 use Rattle.iq_fp.specs.Stands.{Stands}
-use Rattle.iq_fp.specs.Calls.{HasReadCause, all_pages}
+use Rattle.iq_fp.specs.Calls.{HasReadCause}
 
 -- whether a value is on a side of a test of its column
 abbrev pub is_hit : Side → Test → Value → Bool
@@ -58,6 +58,24 @@ IsKnownAt fp told code value = (values : List Value) (stands : Stands fp told va
 abbrev pub AreMarked : Fp → (ℕ → Option Pages) → List Bool → List Bool → Type 0
 AreMarked fp told hits bits =
     (values : List Value) (stands : Stands fp told values) → bits ≡ map (λ code. slice_index_or hits code false) stands.codes
+
+-- the value of each code
+abbrev pub decoded : List Value → List ℕ → List Value
+decoded known codes = map (λ code. value_at code known) codes
+
+-- those rows that are set among n of them, from one on
+abbrev pub set_rows : List Bool → ℕ → ℕ → List ℕ
+set_rows rows from zero = []
+set_rows rows from (suc n) = if slice_index_or rows from false then from ∷ set_rows rows (from + 1) n else set_rows rows (from + 1) n
+
+-- the value of a row by its code on a page, which begins with row `start`
+abbrev pub value_on_page : ℕ → List ℕ → ℕ → List Value → ℕ → Value
+value_on_page w page start known row = value_at (code_in w page (row - start)) known
+
+-- whatever values the column stands for, these are the known ones at the codes of the rows that are set
+abbrev pub AreChosen : Fp → (ℕ → Option Pages) → List Bool → List Value → List Value → Type 0
+AreChosen fp told rows known got =
+    (values : List Value) (stands : Stands fp told values) → got ≡ map (λ row. value_at (slice_index stands.codes row) known) (rows_from 0 rows)
 
 -- the rows from one on have the bits of the codes of a page, and the rows before are as before
 pub record MarksRows (w : ℕ) (page : List ℕ) (n : ℕ) (hits : List Bool) (start : ℕ) (old new : List Bool) : Type 0 where

@@ -6,10 +6,12 @@
 #![tactic(auto)]
 
 mod appending;
+mod choosing;
 mod distinct;
 mod expanding;
 mod fp;
 mod one_row;
+mod pairing;
 mod parts;
 mod reading;
 mod scanning;

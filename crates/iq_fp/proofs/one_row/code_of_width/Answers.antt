@@ -1,4 +1,4 @@
-use Rattle.std.proofs.Common.{◌<◌, ◌≤◌, ◌∙◌, arith}
+use Rattle.std.proofs.Common.{◌<◌, ◌∙◌, arith}
 use Rattle.std.proofs.lemmas.Grind.{rows}
 use Rattle.iq_pieces.specs.Counts.{per_page}
 use Rattle.iq_fp.proofs.OnPages.{code_of_row}

@@ -1,8 +1,7 @@
-use Rattle.std.proofs.Common.{◌≡◌, ◌<◌, ◌/◌, ◌%◌, ◌*◌, ◌-◌, ℕ, List, inr, refl, ap, sym, subst, arith}
+use Rattle.std.proofs.Common.{◌≡◌, ◌<◌, ◌/◌, ◌%◌, ◌*◌, ◌-◌, ℕ, inr, refl, ap, sym, subst, arith}
 use Rattle.std.proofs.lemmas.Grind.{rows}
 use Rattle.iq_base.specs.Cells.{width}
 use Rattle.iq_pages.specs.Pages.{IsPageOf}
-use Rattle.iq_cells.specs.Pieces.{piece_in}
 use Rattle.iq_pieces.specs.Counts.{per_page}
 use Rattle.iq_pieces.specs.Faults.{CellsOf}
 use Rattle.iq_fp.proofs.OnPages.{value_there, unsound_piece}

@@ -1,4 +1,4 @@
-use Rattle.std.proofs.Common.{◌≡◌, ◌<◌, ◌≤◌, ◌/◌, ◌*◌, ◌+◌, ◌-◌, ℕ, length, inl, refl, ◌∙◌, subst, arith}
+use Rattle.std.proofs.Common.{◌<◌, ◌*◌, ◌+◌, inl, refl, ◌∙◌, arith}
 use Rattle.std.proofs.lemmas.Grind.{rows}
 use Rattle.iq_pages.specs.Pages.{IsPageOf}
 use Rattle.iq_pieces.specs.Counts.{per_page}

@@ -1,4 +1,3 @@
-use Rattle.std.proofs.Common.{◌≡◌}
 use Rattle.std.proofs.lemmas.Result.{IfOk-weaker}
 use Rattle.iq_fp.specs.Scans.{is_hit}
 use Rattle.iq_fp.proofs.OnPages.{hits_are}

@@ -1,6 +1,4 @@
-use Rattle.std.proofs.Common.{◌≡◌, List}
 use Rattle.std.proofs.lemmas.Result.{IfOk-weaker}
-use Rattle.iq_fp.specs.Stands.{Stands}
 use Rattle.iq_fp.proofs.Growth.{value_of_row, stands_there}
 use Rattle.iq_fp.proofs.fp.Fp.value.Goals as goal
 
