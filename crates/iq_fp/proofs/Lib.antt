@@ -4,3 +4,4 @@ pub mod Repeats
 pub mod OnPages
 pub mod Chosen
 pub mod Pairs
+pub mod ColumnLaws

@@ -2,3 +2,4 @@ pub mod Forms
 pub mod Stands
 pub mod Calls
 pub mod Scans
+pub mod Laws

@@ -10,6 +10,7 @@ mod choosing;
 mod distinct;
 mod expanding;
 mod fp;
+mod laws;
 mod one_row;
 mod pairing;
 mod parts;
@@ -17,3 +18,4 @@ mod reading;
 mod scanning;
 
 pub use fp::{Form, Fp, code_bytes, form_of};
+pub use laws::{longest_law, room_law, stands_law};
