@@ -1,9 +1,13 @@
 //! What is kept of a column beside its pages.
-ghost use Rattle.std.specs.Prelude.{◌≡◌, ◌<◌, ◌≤◌, ◌^◌};
+ghost use Rattle.std.specs.Prelude.{◌≡◌, ◌<◌, ◌≤◌, ◌^◌, ◌↔◌, IsTrue};
 ghost use Rattle.iq_fp.specs.Forms.{bytes_of, code_width};
+ghost use Rattle.iq_fp.specs.Stands.{HasRoom};
 ghost use Rattle.iq_fp.specs.Laws.{BeginsEmpty};
 
-use iq_base::{Kind, width};
+use iq_base::{Kind, MOST_PAGES, PAGE_BYTES, width};
+
+/// How many values codes of 3 bytes tell apart.
+const MOST_ROWS: usize = 16_777_216;
 
 /// A column: the numbers of its objects of codes and of values, what it holds beside NULL, how many rows it has, and how many
 /// distinct values these had since it was made, NULL one of them. The values of rows that were removed count.
@@ -30,6 +34,18 @@ impl Fp {
             slots: 0,
             distinct: 0,
         }
+    }
+
+    /// Whether so many more values find room: codes of 3 bytes tell them apart, and no object gets more pages than it may have.
+    pub fn has_room(&self, more: usize) -> bool
+        ensures { IsTrue result ↔ HasRoom self.now more }
+    {
+        let per = PAGE_BYTES / width(self.kind);
+        self.codes != self.values
+            && self.distinct <= self.slots
+            && more <= MOST_ROWS
+            && self.slots as usize + more <= MOST_ROWS
+            && self.slots as usize + more <= per * MOST_PAGES as usize
     }
 }
 
