@@ -187,7 +187,7 @@ pub more_still : (old new : Fp) (told told' after : ℕ → Option Pages) (more 
 more_still old new told told' after more ec ev p = λ values stands. p values (stands_there old told told' values ec ev stands)
 
 -- how many pages an append in one form wrote
-pub written_same : (old new : Fp) (kind : Kind) (k f s w : ℕ) (a b c : Option ℕ) → kind ≡ old.kind → k ≡ old.distinct → new.distinct ≡ old.distinct + f → new.slots ≡ old.slots + s → code_width new.distinct ≡ code_width old.distinct → w ≡ code_width new.distinct → CountsMore (pages_changed (width kind) k f) a b → CountsMore (pages_changed w old.slots s) b c → CountsMore (pages_written old new) a c
+pub written_same : (old new : Fp) (kind : Kind) (k f s w : ℕ) (a b c : Option ℕ) → kind ≡ old.kind → k ≡ old.distinct → new.distinct ≡ old.distinct + f → new.slots ≡ old.slots + s → code_width new.distinct ≡ code_width old.distinct → w ≡ code_width new.distinct → CountsMore (pages_changed w old.slots s) a b → CountsMore (pages_changed (width kind) k f) b c → CountsMore (pages_written old new) a c
 written_same old new kind k f s w a b c ek eb ed es same ew p q =
     let test : nat_eq (code_width old.distinct) (code_width new.distinct) ≡ true = eq-eqb _ _ (sym same) in
     let fresh : new.distinct - old.distinct ≡ f = omega arith in
@@ -198,7 +198,8 @@ written_same old new kind k f s w a b c ek eb ed es same ew p q =
     ∙ ap₂ (λ (x : ℕ) (y : ℕ). pages_changed (width old.kind) old.distinct x + pages_changed (code_width old.distinct) old.slots y) fresh rows
     ∙ ap₂ (λ (x : ℕ) (y : ℕ). pages_changed x old.distinct f + pages_changed y old.slots s) (ap width (sym ek)) wide
     ∙ ap (λ (x : ℕ). pages_changed (width kind) x f + pages_changed w old.slots s) (sym eb) in
-    rw total (counts_on _ _ a b c p q)
+    let turned : pages_changed w old.slots s + pages_changed (width kind) k f ≡ pages_changed (width kind) k f + pages_changed w old.slots s = omega arith in
+    rw (total, ← turned) (counts_on _ _ a b c p q)
 
 -- and how many one in a wider form
 pub written_wider : (old new : Fp) (kind : Kind) (k f s w : ℕ) (a b c : Option ℕ) → kind ≡ old.kind → k ≡ old.distinct → new.distinct ≡ old.distinct + f → new.slots ≡ s → code_width new.distinct ≢ code_width old.distinct → w ≡ code_width new.distinct → CountsMore (pages_changed (width kind) k f) a b → CountsMore (pages_changed w 0 s) b c → CountsMore (pages_written old new) a c
