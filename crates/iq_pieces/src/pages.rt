@@ -28,8 +28,8 @@ pub fn read_page<S: PageSource>(
     source.page(object, n, into)
 }
 
-/// Writes a page of an object anew, or puts it behind the last one.
-pub(crate) fn save_page<S: PageSink>(
+/// Writes a page of an object anew, or puts it behind the last one. It costs one write.
+pub fn save_page<S: PageSink>(
     sink: &mut S,
     object: u32,
     n: u32,
