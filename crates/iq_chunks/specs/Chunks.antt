@@ -1,6 +1,6 @@
 -- Objects whose pages hold the bits of rows, and what reading and changing them gives.
-use Rattle.std.specs.Prelude.{◌≡◌, ◌<◌, ◌≤◌, ℕ, zero, suc, ◌+◌, ◌-◌, ◌*◌, ◌/◌, ◌⊎◌, Bool, true, false, List, [], ◌++◌, Option, Some, None, length, replicate, slice_index_or, list_any, sum_by, if◌then◌else◌, ⊤}
-use Rattle.std.specs.List.{range_with_len}
+use Rattle.std.specs.Prelude.{◌≡◌, ◌<◌, ◌≤◌, ℕ, zero, suc, ◌+◌, ◌-◌, ◌*◌, ◌/◌, ◌⊎◌, Bool, true, false, List, [], ◌++◌, Option, Some, None, length, map, replicate, slice_index_or, if◌then◌else◌, ⊤}
+use Rattle.std.specs.List.{range_with_len, list_any, sum_by}
 use Rattle.std.specs.Int.{div_ceil}
 use Rattle.iq_outside.specs.Faults.{RoseWithin}
 use Rattle.iq_pages.specs.declared.page_faults.PageFault.{PageFault}
@@ -49,7 +49,7 @@ hit_in found chunk = if list_any (λ on. on) (chunk_of chunk found) then 1 else 
 
 -- how many pages have one
 abbrev pub chunks_hit : List Bool → ℕ
-chunks_hit found = sum_by (hit_in found) (range_with_len 0 (chunks_for (length found)))
+chunks_hit found = sum_by (λ (pages : ℕ). pages) (map (hit_in found) (range_with_len 0 (chunks_for (length found))))
 
 -- the object's page of a chunk has its bits without those that were found, and each other page is as before
 pub record ChunkCleared (chunk : ℕ) (found : List Bool) (pages pages' : Pages) : Type 0 where

@@ -2,7 +2,7 @@
 ghost use Rattle.std.specs.Prelude.{◌≡◌, ◌<◌, ◌≤◌, ◌+◌, ◌-◌, ◌*◌, ◌/◌, ◌%◌, ◌^◌, min, None, length, OnOk, OnErr, IfErr};
 ghost use Rattle.iq_base.specs.declared.sizes.TheConstants.{MOST_PAGES};
 ghost use Rattle.iq_pages.specs.PageCalls.{view};
-ghost use Rattle.iq_pages.specs.Pages.{CountsMore};
+ghost use Rattle.iq_pages.specs.Pages.{CountsMore, HasCause};
 ghost use Rattle.iq_pieces.specs.Counts.{CountsUpTo, KeepsOthers};
 ghost use Rattle.iq_chunks.specs.Chunks.{chunks_changed, AppendsOnes, HasBitsCause};
 
@@ -75,6 +75,8 @@ fn extend<S: PageSink>(
     ensures written { OnOk result (CountsMore 1 (S.writes sink.old) (S.writes sink.new)) }
     ensures later { S.faults sink.old ≤ S.faults sink.new }
     ensures cause { IfErr result (HasBitsCause object from (view S.PageSource sink.old) (view S.PageSource sink.new)) }
+    // Only a page that is read may be missing.
+    ensures sure { from % CHUNK_ROWS ≡ 0 → IfErr result (HasCause object (view S.PageSource sink.old) (view S.PageSource sink.new)) }
 {
     let chunk = from / CHUNK_ROWS;
     let first = from % CHUNK_ROWS;

@@ -1,5 +1,6 @@
 //! Clearing rows of an object of bits.
-ghost use Rattle.std.specs.Prelude.{◌≡◌, ◌<◌, ◌≤◌, ◌+◌, ◌*◌, None, length, OnOk, OnErr, IfErr};
+ghost use Rattle.std.specs.Prelude.{◌≡◌, ◌<◌, ◌≤◌, ◌+◌, ◌*◌, length, OnOk, OnErr, IfErr};
+ghost use Rattle.std.specs.Option.{option_map};
 ghost use Rattle.iq_pages.specs.PageCalls.{view};
 ghost use Rattle.iq_pages.specs.Pages.{CountsMore};
 ghost use Rattle.iq_pieces.specs.Counts.{CountsUpTo, KeepsOthers};
@@ -43,7 +44,7 @@ fn clear_chunk<S: PageSink>(
 ) -> Result<(), PageFault>
     requires { chunk * CHUNK_ROWS < length found.now }
     ensures ok { OnOk result (ClearsChunk chunk found.now (S.told sink.old object) (S.told sink.new object)) }
-    ensures dark { OnOk result (S.told sink.new object ≡ None → S.told sink.old object ≡ None) }
+    ensures long { OnOk result (option_map length (S.told sink.new object) ≡ option_map length (S.told sink.old object)) }
     ensures others { KeepsOthers object (view S.PageSource sink.old) (view S.PageSource sink.new) }
     ensures reads { CountsUpTo (hit_in found.now chunk) (S.reads sink.old) (S.reads sink.new) }
     ensures written { OnOk result (CountsMore (hit_in found.now chunk) (S.writes sink.old) (S.writes sink.new)) }

@@ -1,5 +1,5 @@
 //! The bits of one page, set or cleared in memory.
-ghost use Rattle.std.specs.Prelude.{◌≡◌, ◌<◌, ◌≤◌, length, replicate, slice_index_or, true, false, IfOk, OnOk};
+ghost use Rattle.std.specs.Prelude.{◌≡◌, ◌<◌, ◌≤◌, ◌*◌, length, replicate, slice_index_or, true, false, IfOk, OnOk};
 ghost use Rattle.iq_bitmap.specs.Bits.{page_bits, chunk_of, difference};
 ghost use Rattle.iq_chunks.specs.Chunks.{SetsRows};
 
