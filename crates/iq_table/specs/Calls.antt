@@ -1,5 +1,5 @@
 -- What the calls on a table change and count, and why they fail.
-use Rattle.std.specs.Prelude.{◌≡◌, ◌≢◌, ◌<◌, ◌≤◌, ℕ, zero, suc, ◌+◌, ◌*◌, ◌/◌, ◌⊎◌, List, [], ◌∷◌, Option, None, IsSome, length, map, slice_index, sum_by, ⊤}
+use Rattle.std.specs.Prelude.{◌≡◌, ◌≢◌, ◌<◌, ◌≤◌, ℕ, zero, suc, ◌+◌, ◌*◌, ◌/◌, ◌⊎◌, Bool, List, [], ◌∷◌, Option, None, IsSome, length, map, slice_index, sum_by, ⊤}
 use Rattle.iq_base.specs.declared.schemas.Column.{Column}
 use Rattle.iq_base.specs.declared.descriptors.ColumnPart.{ColumnPart}
 use Rattle.iq_base.specs.declared.descriptors.Descriptor.{Descriptor}
@@ -8,6 +8,11 @@ use Rattle.iq_pages.specs.declared.page_faults.PageFault.{PageFault}
 use Rattle.iq_pages.specs.declared.page_faults.PageFault.TheVariants as pages
 use Rattle.iq_pages.specs.Pages.{Pages, Seen}
 use Rattle.iq_chunks.specs.Chunks.{chunks_changed, HasBitsCause}
+use Rattle.iq_base.specs.declared.values.Value.{Value}
+use Rattle.iq_bitmap.specs.Bits.{rows_from}
+use Rattle.iq_cells.specs.Packed.{value_at}
+use Rattle.iq_cells.specs.Tables.{column_of}
+use Rattle.iq_fp.specs.Stands.{Stands}
 use Rattle.iq_fp.specs.declared.fp.Fp.{Fp}
 use Rattle.iq_fp.specs.Forms.{code_width}
 use Rattle.iq_fp.specs.Calls as columns
@@ -53,12 +58,16 @@ pub record IsPartGrown (more : ℕ) (old new : ColumnPart) : Type 0 where
   pub most : new.distinct ≤ old.distinct + more
   pub form : old.form ≡ code_width old.distinct → new.form ≡ code_width new.distinct
 
+-- columns after an append
+pub record AreGrown (more : ℕ) (old new : List ColumnPart) : Type 0 where
+  pub long : length new ≡ length old
+  pub each : (c : ℕ) → c < length old → IsPartGrown more (part_at c old) (part_at c new)
+
 -- a table after an append of so many rows: more slots, its columns grown, and nothing else changed
 pub record HasGrown (old new : Table) (more : ℕ) : Type 0 where
   pub rest : record new { parts = record new.parts { slots = old.parts.slots; columns = old.parts.columns } } ≡ old
   pub slots : new.parts.slots ≡ old.parts.slots + more
-  pub long : length new.parts.columns ≡ length old.parts.columns
-  pub columns : (c : ℕ) → c < length old.parts.columns → IsPartGrown more (part_at c old.parts.columns) (part_at c new.parts.columns)
+  pub columns : AreGrown more old.parts.columns new.parts.columns
 
 -- how many pages of columns an append writes: of each those of new values and new codes, and all codes where their form changes
 abbrev pub columns_written : ℕ → ℕ → List ColumnPart → List ColumnPart → ℕ
@@ -79,11 +88,43 @@ append_writes old new (suc more) = columns_written old.parts.slots new.parts.slo
 abbrev pub append_reads : Table → ℕ
 append_reads table = columns_read table.parts.slots table.parts.columns + 1
 
+-- a page of a column isn't sound for an append
+abbrev pub IsBadColumn : ℕ → ℕ → List ColumnPart → Seen → Seen → ℕ → ℕ → Type 0
+IsBadColumn place slots parts before after object page =
+    (c : ℕ) × (c < length parts) × columns.HasAppendCause (fp_of place slots c (part_at c parts)) before after (pages.BadPage object page)
+
+-- why values aren't put behind those of columns: the store failed, or the page that the fault names isn't sound
+abbrev pub HasColumnsCause : ℕ → ℕ → List ColumnPart → Seen → Seen → PageFault → Type 0
+HasColumnsCause place slots parts before after (pages.Failed x y) = RoseWithin before.faults x y after.faults
+HasColumnsCause place slots parts before after (pages.BadPage object page) = IsBadColumn place slots parts before after object page
+HasColumnsCause place slots parts before after pages.NoMemory = ⊤
+
 -- a page isn't sound for an append: it lacks in the object of existence, or isn't sound of a column
 abbrev pub IsBadForAppend : ℕ → ℕ → List ColumnPart → Seen → Seen → ℕ → ℕ → Type 0
 IsBadForAppend place slots parts before after object page =
     HasBitsCause (existence_of place) slots before after (pages.BadPage object page)
-    ⊎ ((c : ℕ) × (c < length parts) × columns.HasAppendCause (fp_of place slots c (part_at c parts)) before after (pages.BadPage object page))
+    ⊎ IsBadColumn place slots parts before after object page
+
+-- why rows aren't written: the store failed, or the page that the fault names isn't sound
+abbrev pub HasWriteCause : ℕ → ℕ → List ColumnPart → Seen → Seen → PageFault → Type 0
+HasWriteCause place slots parts before after (pages.Failed x y) = RoseWithin before.faults x y after.faults
+HasWriteCause place slots parts before after (pages.BadPage object page) = IsBadForAppend place slots parts before after object page
+HasWriteCause place slots parts before after pages.NoMemory = ⊤
+
+-- whatever values the first columns stood for, each stands for more afterwards
+abbrev pub ColumnsStandForMore : ℕ → ℕ → ℕ → ℕ → List ColumnPart → List ColumnPart → List (List Value) → (ℕ → Option Pages) → (ℕ → Option Pages) → Type 0
+ColumnsStandForMore n place slots slots' old new more before after =
+    (c : ℕ) → c < n → columns.StandsForMore (fp_of place slots c (part_at c old)) (fp_of place slots' c (part_at c new)) (column_of c more) before after
+
+-- every object has the pages that it had but those of the first columns
+pub record KeepsButColumns (place n : ℕ) (before after : Seen) : Type 0 where
+  pub told : (object : ℕ) → (object ≤ 256 * place) ⊎ (256 * place + 2 * n < object) → after.told object ≡ before.told object
+  pub counts : (object : ℕ) → (object ≤ 256 * place) ⊎ (256 * place + 2 * n < object) → after.counts object ≡ before.counts object
+
+-- and those of existence
+pub record KeepsButRows (place n : ℕ) (before after : Seen) : Type 0 where
+  pub told : (object : ℕ) → (object < 256 * place) ⊎ (256 * place + 2 * n < object) → after.told object ≡ before.told object
+  pub counts : (object : ℕ) → (object < 256 * place) ⊎ (256 * place + 2 * n < object) → after.counts object ≡ before.counts object
 
 -- why rows aren't put behind those of a table: the store failed; the page that the fault names isn't sound, of existence or of a
 -- column; or the table would have more rows than it may
@@ -92,6 +133,10 @@ HasAppendCause table more before after (faults.Failed x y) = RoseWithin before.f
 HasAppendCause table more before after (faults.BadPage object page) = IsBadForAppend table.place table.parts.slots table.parts.columns before after object page
 HasAppendCause table more before after faults.NoMemory = ⊤
 HasAppendCause table more before after (faults.TableFull limit) = (limit ≡ limit_of table.parts) × (limit < table.parts.slots + more)
+
+-- whatever values a column stands for, these are those of the rows that are set, in order
+abbrev pub AreChosen : Fp → (ℕ → Option Pages) → List Bool → List Value → Type 0
+AreChosen fp told set got = (values : List Value) → Stands fp told values → got ≡ map (λ (r : ℕ). value_at r values) (rows_from 0 set)
 
 -- how many pages some columns have
 abbrev pub pages_of_columns : Table → List ℕ → ℕ

@@ -1,5 +1,6 @@
 -- How many rows a table may have.
-use Rattle.std.specs.Prelude.{ℕ, ◌≤◌, ◌*◌, ◌^◌, Bool, true, false, List, map, list_any}
+use Rattle.std.specs.Prelude.{ℕ, ◌≤◌, ◌*◌, ◌^◌, Bool, true, false, List, map}
+use Rattle.std.specs.List.{list_any}
 use Rattle.iq_base.specs.declared.sizes.TheConstants.{MOST_PAGES}
 use Rattle.iq_base.specs.declared.values.Kind.{Kind}
 use Rattle.iq_base.specs.declared.schemas.Column.{Column}

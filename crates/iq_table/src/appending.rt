@@ -1,13 +1,16 @@
 //! Putting rows behind those of a table.
-ghost use Rattle.std.specs.Prelude.{◌≡◌, ◌<◌, ◌≤◌, ◌+◌, Err, length, replicate, true, OnOk, OnErr, IfOk, IfErr};
+ghost use Rattle.std.specs.Prelude.{◌≡◌, ◌<◌, ◌≤◌, ◌+◌, ◌*◌, ℕ, Err, length, replicate, true, OnOk, OnErr, IfOk, IfErr};
 ghost use Rattle.iq_pages.specs.PageCalls.{view};
 ghost use Rattle.iq_pages.specs.Pages.{CountsMore};
 ghost use Rattle.iq_pieces.specs.Counts.{CountsUpTo};
 ghost use Rattle.iq_table.specs.declared.faults.TableFault.TheVariants.{TableFull};
-ghost use Rattle.iq_table.specs.Places.{part_kinds};
-ghost use Rattle.iq_table.specs.Limits.{limit_of};
+ghost use Rattle.iq_base.specs.declared.sizes.TheConstants.{MOST_PAGES};
+ghost use Rattle.iq_bitmap.specs.declared.page_words.TheConstants.{CHUNK_ROWS};
+ghost use Rattle.iq_chunks.specs.Chunks.{AppendsOnes, chunks_changed};
+ghost use Rattle.iq_table.specs.Places.{existence_of, part_at, part_kinds};
+ghost use Rattle.iq_table.specs.Limits.{limit_of, FindsRoom};
 ghost use Rattle.iq_table.specs.Table.{StandsForMore};
-ghost use Rattle.iq_table.specs.Calls.{HasGrown, KeepsOtherTables, HasAppendCause, append_reads, append_writes};
+ghost use Rattle.iq_table.specs.Calls.{HasGrown, AreGrown, ColumnsStandForMore, KeepsButRows, KeepsOtherTables, HasWriteCause, HasAppendCause, columns_read, columns_written, append_reads, append_writes};
 
 use crate::columns::append_columns;
 use crate::faults::TableFault;

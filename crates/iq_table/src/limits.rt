@@ -1,6 +1,5 @@
 //! How many rows a table may have.
-ghost use Rattle.std.specs.Prelude.{◌≡◌, list_any};
-ghost use Rattle.iq_base.specs.declared.descriptors.IndexPart.{IndexPart};
+ghost use Rattle.std.specs.Prelude.{◌≡◌};
 ghost use Rattle.iq_base.specs.Limits.{longest, row_limit};
 ghost use Rattle.iq_table.specs.Limits.{as_columns, is_low_fast, has_low_fast, limit_of};
 

@@ -1,11 +1,12 @@
 //! Reading a table.
-ghost use Rattle.std.specs.Prelude.{◌≡◌, ◌<◌, ◌≤◌, length, slice_index, ℕ, OnOk, IfOk, IfErr};
+ghost use Rattle.std.specs.Prelude.{◌≡◌, ◌<◌, ◌≤◌, length, count_by, slice_index, ℕ, OnOk, IfOk, IfErr};
 ghost use Rattle.iq_pages.specs.PageCalls.{view};
 ghost use Rattle.iq_pieces.specs.Counts.{OnlyReads};
 ghost use Rattle.iq_chunks.specs.Chunks.{chunks_for, HasBitsCause};
-ghost use Rattle.iq_table.specs.Places.{existence_of, kinds_at};
+ghost use Rattle.iq_fp.specs.Calls.{HasReadCause, all_pages};
+ghost use Rattle.iq_table.specs.Places.{existence_of, kinds_at, part_at, fp_at};
 ghost use Rattle.iq_table.specs.Table.{GivesAlive, GivesRows};
-ghost use Rattle.iq_table.specs.Calls.{HasRowsCause, pages_of_columns};
+ghost use Rattle.iq_table.specs.Calls.{AreChosen, HasRowsCause, pages_of_columns};
 
 use crate::places::{existence_of, fp_of};
 use crate::table::Table;
