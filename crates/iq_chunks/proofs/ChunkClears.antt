@@ -42,7 +42,7 @@ and_true true = refl
 and_true false = refl
 
 -- without nothing
-difference_none : (xs : List Bool) (n : ℕ) → length xs ≡ n → difference xs (replicate n false) ≡ xs
+pub difference_none : (xs : List Bool) (n : ℕ) → length xs ≡ n → difference xs (replicate n false) ≡ xs
 difference_none xs n long =
     let same : length xs ≡ length (replicate n false) = long ∙ sym (length-replicate n false) in
     ext_get_or false (difference xs (replicate n false)) xs (length-zip2 (λ a b. a && not b) xs (replicate n false) same)

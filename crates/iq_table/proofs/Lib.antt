@@ -1,0 +1,5 @@
+pub mod Room
+pub mod Moves
+pub mod Making
+pub mod Growth
+pub mod Removals

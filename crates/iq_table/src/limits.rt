@@ -1,13 +1,17 @@
 //! How many rows a table may have.
-ghost use Rattle.std.specs.Prelude.{◌≡◌};
+ghost use Rattle.std.specs.Prelude.{◌≡◌, ◌<◌, ◌≤◌, ◌*◌, ◌^◌, ℕ, length};
 ghost use Rattle.iq_base.specs.Limits.{longest, row_limit};
-ghost use Rattle.iq_table.specs.Limits.{as_columns, is_low_fast, has_low_fast, limit_of};
+ghost use Rattle.iq_table.specs.Places.{part_at};
+ghost use Rattle.iq_table.specs.Limits.{as_columns, is_low_fast, has_low_fast, limit_of, FindsRoom};
 
 use iq_base::{ColumnPart, Descriptor, IndexKind, IndexPart, rows_within, text_length};
 
-/// How many rows a table may have, removed ones counted, by its columns and by whether it has a Low Fast index.
+/// How many rows a table may have, removed ones counted, by its columns and by whether it has a Low Fast index. So many rows find
+/// room: no object of a column gets more pages than it may have.
 pub fn limit_of(parts: &Descriptor) -> u32
-    ensures { result ≡ limit_of parts.now }
+    ensures value { result ≡ limit_of parts.now }
+    ensures room { (rows c : ℕ) → rows ≤ result → c < length parts.now.columns → FindsRoom (part_at c parts.now.columns).kind rows }
+    ensures most { result ≤ 2097152 }
 {
     rows_within(
         longest_text(parts.columns.as_slice()),
@@ -38,7 +42,8 @@ fn is_low_fast(kind: IndexKind) -> bool
 
 /// The greatest length of a text of some columns.
 fn longest_text(parts: &[ColumnPart]) -> u8
-    ensures { result ≡ longest (as_columns parts.now) }
+    ensures value { result ≡ longest (as_columns parts.now) }
+    ensures short { longest (as_columns parts.now) ≤ 255 }
 {
     let mut most = 0;
     for part in parts {

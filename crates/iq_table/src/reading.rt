@@ -61,7 +61,17 @@ impl Table {
         source: &mut S,
         rows: &Bitmap,
         c: usize,
-    ) -> Result<Cells, PageFault> {
+    ) -> Result<Cells, PageFault>
+        requires place { self.now.place < 64 }
+        requires few { length self.now.parts.columns ≤ 32 }
+        requires long { length rows.now ≡ self.now.parts.slots }
+        requires column { c < length self.now.parts.columns }
+        ensures kind { IfOk result (λ cells. cells.kind ≡ (part_at c self.now.parts.columns).kind) }
+        ensures long { IfOk result (λ cells. length cells.values ≡ count_by (λ on. on) rows.now) }
+        ensures values { IfOk result (λ cells. AreChosen (fp_at self.now.place self.now.parts c) (S.told source.old) rows.now cells.values) }
+        ensures reads { OnlyReads (all_pages (fp_at self.now.place self.now.parts c)) (view S.PageSource source.old) (view S.PageSource source.new) }
+        ensures cause { IfErr result (HasReadCause (fp_at self.now.place self.now.parts c) (view S.PageSource source.old) (view S.PageSource source.new)) }
+    {
         let fp = fp_of(
             self.place,
             self.parts.slots,

@@ -1,13 +1,14 @@
 //! A table: its place and its descriptor.
-ghost use Rattle.std.specs.Prelude.{◌≡◌, ◌<◌, ◌≤◌, ◌+◌, ◌*◌, [], length, map, OnOk, IfOk, IfErr};
+ghost use Rattle.std.specs.Prelude.{◌≡◌, ◌<◌, ◌≤◌, ◌+◌, ◌*◌, ℕ, [], length, map, OnOk, IfOk, IfErr};
 ghost use Rattle.iq_pages.specs.PageCalls.{view};
 ghost use Rattle.iq_pages.specs.Pages.{CountsMore};
-ghost use Rattle.iq_table.specs.Places.{new_part, no_ref};
+ghost use Rattle.iq_base.specs.Cells.{width};
+ghost use Rattle.iq_table.specs.Places.{new_part, no_ref, part_at};
 ghost use Rattle.iq_table.specs.Table.{TableStands};
 ghost use Rattle.iq_table.specs.Calls.{new_parts, IsUnused, TellsObjects, KeepsOtherTables, HasMakeCause};
 
-use crate::places::{codes_of, existence_of, values_of};
-use iq_base::{Column, ColumnPart, Descriptor, Listed, Name, NoMemory, Ref};
+use crate::places::existence_of;
+use iq_base::{Column, ColumnPart, Descriptor, Listed, Name, NoMemory, Ref, width};
 use iq_pages::{PageFault, PageSink};
 use std::alloc::Global;
 
@@ -53,10 +54,11 @@ impl Table {
         ensures later { S.faults sink.old ≤ S.faults sink.new }
         ensures cause { IfErr result (HasMakeCause self.now (view S.PageSource sink.old) (view S.PageSource sink.new)) }
     {
-        sink.new_object(existence_of(self.place))?;
-        for c in 0..self.parts.columns.len() {
-            sink.new_object(codes_of(self.place, c))?;
-            sink.new_object(values_of(self.place, c))?;
+        cells_fit_pages(self.parts.columns.as_slice());
+        let first = existence_of(self.place);
+        let behind = first + 1 + 2 * self.parts.columns.len() as u32;
+        for object in first..behind {
+            sink.new_object(object)?;
         }
         Ok(())
     }
@@ -81,5 +83,14 @@ fn new_part(column: &Column) -> ColumnPart
         distinct: 0,
         cells: no_ref(),
         values: no_ref(),
+    }
+}
+
+/// Nothing: no cell is longer than a page, which each kind tells.
+fn cells_fit_pages(parts: &[ColumnPart])
+    ensures { (c : ℕ) → c < length parts.now → width (part_at c parts.now).kind ≤ 257 }
+{
+    for part in parts {
+        let _width = width(part.kind);
     }
 }
