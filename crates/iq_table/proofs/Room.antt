@@ -14,7 +14,7 @@ use Rattle.iq_table.specs.Places.{part_at}
 use Rattle.iq_table.specs.Limits.{as_columns, FindsRoom}
 
 -- no limit is above 2,097,152, and none of a text above 262,144
-most_rows : (l : ℕ) (lf : Bool) → rows_within l lf ≤ 2097152
+pub most_rows : (l : ℕ) (lf : Bool) → rows_within l lf ≤ 2097152
 most_rows l true = grind (arith, nat_tests)
 most_rows l false = grind (arith, nat_tests)
 
@@ -62,6 +62,3 @@ below_longest (part ∷ parts) (suc c) h = let more = below_longest parts c (ome
 
 pub finds_room : (parts : List ColumnPart) (lf : Bool) (rows c : ℕ) → longest (as_columns parts) ≤ 255 → rows ≤ row_limit (as_columns parts) lf → c < length parts → FindsRoom (part_at c parts).kind rows
 finds_room parts lf rows c short few h = kind_room (part_at c parts).kind (longest (as_columns parts)) rows lf (below_longest parts c h) short few
-
-pub most_of : (l : ℕ) (lf : Bool) → rows_within l lf ≤ 2097152
-most_of l lf = most_rows l lf

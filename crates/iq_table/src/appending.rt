@@ -81,7 +81,21 @@ fn write_rows<S: PageSink>(
     slots: u32,
     parts: &[ColumnPart],
     rows: &Rows,
-) -> Result<Vec<ColumnPart>, PageFault> {
+) -> Result<Vec<ColumnPart>, PageFault>
+    requires place { place < 64 }
+    requires few { length parts.now ≤ 32 }
+    requires kinds { rows.now.kinds ≡ part_kinds parts.now }
+    requires room { (c : ℕ) → c < length parts.now → FindsRoom (part_at c parts.now).kind (slots + length rows.now.rows) }
+    requires bits { slots + length rows.now.rows ≤ CHUNK_ROWS * MOST_PAGES }
+    ensures grown { IfOk result (λ grown. AreGrown (length rows.now.rows) parts.now grown.items) }
+    ensures ok { IfOk result (λ grown. ColumnsStandForMore (length parts.now) place slots (slots + length rows.now.rows) parts.now grown.items rows.now.rows (S.told sink.old) (S.told sink.new)) }
+    ensures existence { OnOk result (AppendsOnes slots (length rows.now.rows) (S.told sink.old (existence_of place)) (S.told sink.new (existence_of place))) }
+    ensures others { KeepsButRows place (length parts.now) (view S.PageSource sink.old) (view S.PageSource sink.new) }
+    ensures reads { CountsUpTo (columns_read slots parts.now + 1) (S.reads sink.old) (S.reads sink.new) }
+    ensures written { IfOk result (λ grown. CountsMore (columns_written slots (slots + length rows.now.rows) parts.now grown.items + chunks_changed slots (length rows.now.rows)) (S.writes sink.old) (S.writes sink.new)) }
+    ensures later { S.faults sink.old ≤ S.faults sink.new }
+    ensures cause { IfErr result (HasWriteCause place slots parts.now (view S.PageSource sink.old) (view S.PageSource sink.new)) }
+{
     let columns = append_columns(alloc, sink, place, slots, parts, rows)?;
     append_ones(alloc, sink, existence_of(place), slots, rows.len() as u32)?;
     Ok(columns)

@@ -1,6 +1,6 @@
 //! How many rows a table may have.
 ghost use Rattle.std.specs.Prelude.{◌≡◌, ◌<◌, ◌≤◌, ◌*◌, ◌^◌, ℕ, length};
-ghost use Rattle.iq_base.specs.Limits.{longest, row_limit};
+ghost use Rattle.iq_base.specs.Limits.{longest, rows_within};
 ghost use Rattle.iq_table.specs.Places.{part_at};
 ghost use Rattle.iq_table.specs.Limits.{as_columns, is_low_fast, has_low_fast, limit_of, FindsRoom};
 
@@ -13,10 +13,19 @@ pub fn limit_of(parts: &Descriptor) -> u32
     ensures room { (rows c : ℕ) → rows ≤ result → c < length parts.now.columns → FindsRoom (part_at c parts.now.columns).kind rows }
     ensures most { result ≤ 2097152 }
 {
-    rows_within(
+    limit_within(
         longest_text(parts.columns.as_slice()),
         has_low_fast(parts.indexes.as_slice()),
     )
+}
+
+/// The same by the greatest length of a text.
+fn limit_within(longest: u8, low_fast: bool) -> u32
+    ensures value { result ≡ rows_within longest low_fast }
+    ensures short { longest ≤ 255 }
+    ensures most { result ≤ 2097152 }
+{
+    rows_within(longest, low_fast)
 }
 
 /// Whether a Low Fast index is among indexes.
@@ -42,8 +51,7 @@ fn is_low_fast(kind: IndexKind) -> bool
 
 /// The greatest length of a text of some columns.
 fn longest_text(parts: &[ColumnPart]) -> u8
-    ensures value { result ≡ longest (as_columns parts.now) }
-    ensures short { longest (as_columns parts.now) ≤ 255 }
+    ensures { result ≡ longest (as_columns parts.now) }
 {
     let mut most = 0;
     for part in parts {

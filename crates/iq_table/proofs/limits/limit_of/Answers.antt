@@ -10,7 +10,7 @@ pub returns-clause-room : goal.returns-clause-room
 returns-clause-room c = λ rows k few within.
     let parts = c.args.parts.now.columns in
     let low_fast = has_low_fast c.args.parts.now.indexes in
-    let text : c.longest_text.result ≡ longest (as_columns parts) = c.longest_text.ensures.value ∙ ap (λ (ps : List ColumnPart). longest (as_columns ps)) c.as_slice.ensures in
+    let text : c.longest_text.result ≡ longest (as_columns parts) = c.longest_text.ensures ∙ ap (λ (ps : List ColumnPart). longest (as_columns ps)) c.as_slice.ensures in
     let low : c.has_low_fast.result ≡ low_fast = c.has_low_fast.ensures ∙ ap (λ (is : List IndexPart). has_low_fast is) c.as_slice-2.ensures in
-    let limit : c.rows_within.result ≡ rows_within (longest (as_columns parts)) low_fast = c.rows_within.ensures ∙ ap₂ rows_within text low in
-    finds_room parts low_fast rows k (rw c.as_slice.ensures at c.longest_text.ensures.short) (rw limit at few) within
+    let limit : c.limit_within.result ≡ rows_within (longest (as_columns parts)) low_fast = c.limit_within.ensures.value ∙ ap₂ rows_within text low in
+    finds_room parts low_fast rows k (rw text at c.limit_within.ensures.short) (rw limit at few) within
