@@ -85,6 +85,12 @@ pub record SameObjects (old new : Fp) : Type 0 where
   pub values : new.values ≡ old.values
   pub kind : new.kind ≡ old.kind
 
+-- a column with so many more rows, of which at most so many have values that weren't there before
+pub record IsLonger (old new : Fp) (more : ℕ) : Type 0 where
+  pub slots : new.slots ≡ old.slots + more
+  pub distinct : old.distinct ≤ new.distinct
+  pub most : new.distinct ≤ old.distinct + more
+
 -- a column with more rows and more distinct values: the codes of the rows, numbered behind the known values
 pub record IsGrown (old new : Fp) (known : Column) (numbered : Numbered) : Type 0 where
   pub objects : SameObjects old new

@@ -12,7 +12,7 @@ ghost use Rattle.iq_pieces.specs.Objects.{HoldsObject};
 ghost use Rattle.iq_pieces.specs.Faults.{HasPageCause};
 ghost use Rattle.iq_fp.specs.Forms.{code_width, bytes_of};
 ghost use Rattle.iq_fp.specs.Stands.{HaveCells, HasRoom};
-ghost use Rattle.iq_fp.specs.Calls.{AreKnown, StandsForMore, SameObjects, KeepsOtherObjects, IsGrown, GoOn, WritesParts, HasReadCause, HasAppendCause, pages_read, pages_written};
+ghost use Rattle.iq_fp.specs.Calls.{AreKnown, StandsForMore, SameObjects, IsLonger, KeepsOtherObjects, IsGrown, GoOn, WritesParts, HasReadCause, HasAppendCause, pages_read, pages_written};
 
 use crate::distinct::first_repeat;
 use crate::fp::{Fp, code_bytes, form_of};
@@ -68,6 +68,7 @@ impl Fp {
         requires room { HasRoom self.old (length cells.now.values) }
         ensures ok { OnOk result (StandsForMore self.old self.new cells.now.values (S.told sink.old) (S.told sink.new)) }
         ensures same { SameObjects self.old self.new }
+        ensures longer { OnOk result (IsLonger self.old self.new (length cells.now.values)) }
         ensures kept { OnErr result (self.new ≡ self.old) }
         ensures others { KeepsOtherObjects self.old (view S.PageSource sink.old) (view S.PageSource sink.new) }
         ensures reads { CountsUpTo (pages_read self.old) (S.reads sink.old) (S.reads sink.new) }

@@ -16,7 +16,7 @@ mod taking;
 pub use appending::{append, append_behind, rewrite};
 pub use code_list::CodeList;
 pub use codes::Codes;
-pub use pages::read_page;
+pub use pages::{read_page, save_page};
 pub use pieces::Pieces;
 pub use reading::read;
 pub use taking::{PieceFault, Takes};

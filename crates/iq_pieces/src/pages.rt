@@ -2,7 +2,7 @@
 ghost use Rattle.std.specs.Prelude.{◌≡◌, ◌<◌, ◌≤◌, ◌+◌, ℕ, Some, None, max, OnOk, OnErr, IfErr};
 ghost use Rattle.iq_base.specs.declared.sizes.TheConstants.{MOST_PAGES};
 ghost use Rattle.iq_pages.specs.PageCalls.{view};
-ghost use Rattle.iq_pages.specs.Pages.{IsPageOf, CountsMore, HasCause};
+ghost use Rattle.iq_pages.specs.Pages.{IsPageOf, CountsMore, HasCause, NamesPage};
 ghost use Rattle.iq_pieces.specs.Counts.{KeepsOthers, OnlyReads};
 ghost use Rattle.iq_pieces.specs.Objects.{SavesPage};
 ghost use Rattle.iq_pieces.specs.Faults.{HasPageCause};
@@ -21,6 +21,7 @@ pub fn read_page<S: PageSource>(
     ensures there { OnOk result (n < S.counts source.old object) }
     ensures reads { OnlyReads 1 (view S.PageSource source.old) (view S.PageSource source.new) }
     ensures cause { IfErr result (HasPageCause object (view S.PageSource source.old) (view S.PageSource source.new)) }
+    ensures names { IfErr result (NamesPage n) }
 {
     if n >= source.pages(object) {
         return Err(PageFault::BadPage { object, page: n });
@@ -28,8 +29,8 @@ pub fn read_page<S: PageSource>(
     source.page(object, n, into)
 }
 
-/// Writes a page of an object anew, or puts it behind the last one.
-pub(crate) fn save_page<S: PageSink>(
+/// Writes a page of an object anew, or puts it behind the last one. It costs one write.
+pub fn save_page<S: PageSink>(
     sink: &mut S,
     object: u32,
     n: u32,

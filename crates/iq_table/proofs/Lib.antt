@@ -1,7 +1,5 @@
-pub mod AppendLemmas
-pub mod GrowLemmas
-pub mod LimitLemmas
-pub mod PutPage
-pub mod ReadLemmas
-pub mod TableLemmas
-pub mod Windows
+pub mod Room
+pub mod Moves
+pub mod Making
+pub mod Growth
+pub mod Removals

@@ -1,5 +1,5 @@
-pub mod Appending
-pub mod Decoding
-pub mod Layout
-pub mod Reading
+pub mod Calls
+pub mod Faults
+pub mod Limits
+pub mod Places
 pub mod Table

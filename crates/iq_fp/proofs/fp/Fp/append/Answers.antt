@@ -35,3 +35,10 @@ returns-clause-ok g c =
     (rw (c.in_ok-numbered.ensures.kind, c.requires.kind) at c.have_cells.ensures)
     (known_still self (g.S.PageSource.told c.args.sink.now) (g.S.PageSource.told c.distinct_values.new.source) _ (sym (kept self.codes)) (sym (kept self.values)) c.in_ok-known.ensures.known)
     c.in_ok-numbered.ensures.ok c.in_ok-write_parts.ensures.ok)
+
+pub returns-clause-longer : goal.returns-clause-longer
+returns-clause-longer g c = record {
+  slots = ap (λ (n : ℕ). c.args.self.now.slots + n) c.len.ensures;
+  distinct = omega arith;
+  most = omega (arith, c.in_ok-numbered.ensures.few, c.len-2.ensures);
+}

@@ -1,0 +1,4 @@
+pub mod PageRows
+pub mod ChunkReads
+pub mod ChunkGrowth
+pub mod ChunkClears

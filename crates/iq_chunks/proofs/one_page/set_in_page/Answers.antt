@@ -1,0 +1,22 @@
+use Rattle.std.proofs.Common.{◌≡◌, ◌<◌, ◌≤◌, ℕ, List, Bool, length, sym, ap, ◌∙◌, arith}
+use Rattle.iq_bitmap.proofs.Chunks.{length-page_bits}
+use Rattle.iq_chunks.specs.Chunks.{SetsRows}
+use Rattle.iq_chunks.proofs.PageRows.{chunk_whole}
+use Rattle.iq_chunks.proofs.one_page.set_in_page.Goals as goal
+
+pub set_rows-requires-clause-within : goal.set_rows-requires-clause-within
+set_rows-requires-clause-within c =
+    let page : length c.in_ok-bits.bits ≡ 8064 = ap length c.in_ok-bits.ensures ∙ length-page_bits c.args.page.now in
+    omega (arith, page, c.requires.within)
+
+pub store_page-requires : goal.store_page-requires
+store_page-requires c =
+    let page : length c.in_ok-bits.bits ≡ 8064 = ap length c.in_ok-bits.ensures ∙ length-page_bits c.args.page.now in
+    omega (arith, page, c.set_rows.ensures.long)
+
+pub returns : goal.returns
+returns c =
+    let page : length c.in_ok-bits.bits ≡ 8064 = ap length c.in_ok-bits.ensures ∙ length-page_bits c.args.page.now in
+    let whole = chunk_whole c.set_rows.new.bits (c.set_rows.ensures.long ∙ page) in
+    let sets : SetsRows c.args.from c.args.to c.in_ok-bits.bits c.set_rows.new.bits = c.set_rows.ensures.rows in
+    rw (c.store_page.ensures, whole, ← c.in_ok-bits.ensures) sets

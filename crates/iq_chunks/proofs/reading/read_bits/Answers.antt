@@ -1,0 +1,28 @@
+use Rattle.std.proofs.Common.{◌≡◌, ◌<◌, ◌≤◌, ◌+◌, ◌*◌, ◌/◌, ◌%◌, ℕ, min, length, Option, sym, ap, ◌∙◌, subst, arith}
+use Rattle.std.proofs.lemmas.Result.{err_from_is_err_and}
+use Rattle.iq_pages.specs.PageCalls.{view}
+use Rattle.iq_pages.specs.Pages.{Pages, IsPageOf}
+use Rattle.iq_bitmap.specs.Bits.{with_chunk, page_bits}
+use Rattle.iq_bitmap.proofs.Chunks.{length-with_chunk}
+use Rattle.iq_pieces.proofs.Counting.{reads_on}
+use Rattle.iq_chunks.proofs.ChunkReads.{AreLoaded, loads_next, gives_bits, read_cause}
+use Rattle.iq_chunks.proofs.reading.read_bits.Goals as goal
+
+pub returns-in_err-read_page-clause-cause : goal.returns-in_err-read_page-clause-cause
+returns-in_err-read_page-clause-cause g c =
+    let p = err_from_is_err_and c.from_residual-in_err-read_page.result c.from_residual-in_err-read_page.ensures.1 in
+    rw (p.1, p.2) (read_cause c.args.object c.args.len c.loop-chunk.chunk (view g.S.PageSource c.args.source.now) (view g.S.PageSource c.loop-chunk.source) (view g.S.PageSource c.read_page.new.source) c.in_err-read_page.field-0.0 c.loop-chunk.invariant.reads.kept c.loop-chunk.invariant.reads.later (omega arith) c.in_err-read_page.ensures.names c.in_err-read_page.ensures.cause)
+
+pub loop-chunk-preserved : goal.loop-chunk-preserved
+loop-chunk-preserved g c =
+    let told = c.loop-chunk.invariant.reads.kept.told c.args.object in
+    let of : IsPageOf (g.S.PageSource.told c.args.source.now c.args.object) c.loop-chunk.chunk c.read_page.new.into = subst (λ (o : Option Pages). IsPageOf o c.loop-chunk.chunk c.read_page.new.into) told c.in_ok-read_page.ensures.ok in
+    let next = loads_next _ c.loop-chunk.chunk c.loop-chunk.bits c.read_page.new.into of c.loop-chunk.invariant.loaded in
+    record {
+      long = ap length c.load_page.ensures ∙ length-with_chunk c.loop-chunk.chunk c.loop-chunk.bits (page_bits c.read_page.new.into) ∙ c.loop-chunk.invariant.long;
+      loaded = rw c.load_page.ensures next;
+      reads = reads_on c.loop-chunk.chunk 1 (c.loop-chunk.chunk + 1) _ _ _ (omega arith) c.loop-chunk.invariant.reads c.read_page.ensures.reads;
+    }
+
+pub returns-clause-bits : goal.returns-clause-bits
+returns-clause-bits g c = gives_bits _ c.args.len (c.loop-chunk.chunk * 8064) c.loop-chunk.bits c.loop-chunk.invariant.long (omega (arith, c.loop-chunk.auto.chunk-end, c.div_ceil-chunk-end.ensures)) c.loop-chunk.invariant.loaded
