@@ -1,0 +1,64 @@
+-- NOT carried to the tests, and the tests as they are planned.
+use Rattle.std.specs.Prelude.{Bool, true, false, not, ◌||◌, List, [], ◌∷◌, filter, map, flat_map, if◌then◌else◌}
+use Rattle.std.specs.List.{list_any, list_all}
+use Rattle.iq_base.specs.Shorts.{Name}
+use Rattle.iq_base.specs.declared.values.Value.{Value}
+use Rattle.iq_ast.specs.declared.conditions.Op.{Op}
+use Rattle.iq_ast.specs.declared.conditions.Op.TheVariants as ops
+use Rattle.iq_ast.specs.declared.conditions.Test.{Test}
+use Rattle.iq_ast.specs.declared.conditions.Test.TheVariants as tests
+use Rattle.iq_ast.specs.declared.conditions.Cond.{Cond, fold-Cond}
+use Rattle.iq_ast.specs.declared.conditions.Cond.TheOpen.{Cond-F}
+use Rattle.iq_conditions.specs.Truths.{is_null}
+
+-- under NOT, = and <>, < and >=, > and <= change places
+abbrev pub negated_op : Op → Op
+negated_op ops.Eq = ops.Ne
+negated_op ops.Ne = ops.Eq
+negated_op ops.Lt = ops.Ge
+negated_op ops.Le = ops.Gt
+negated_op ops.Gt = ops.Le
+negated_op ops.Ge = ops.Lt
+
+-- the test that says NOT of a test; IN and NOT IN, BETWEEN and NOT BETWEEN, IS NULL and IS NOT NULL change places
+abbrev pub negated_test : Test → Test
+negated_test (tests.Compare column op value) = tests.Compare column (negated_op op) value
+negated_test (tests.Columns left op right) = tests.Columns left (negated_op op) right
+negated_test (tests.Between column negated low high) = tests.Between column (not negated) low high
+negated_test (tests.OneOf column negated values) = tests.OneOf column (not negated) values
+negated_test (tests.Null column negated) = tests.Null column (not negated)
+
+-- a test, or the one that says NOT of it
+abbrev pub test_under : Bool → Test → Test
+test_under true test = negated_test test
+test_under false test = test
+
+-- one level of a condition: its tests, under an even or an odd number of NOTs
+abbrev pub carry_step : Cond-F (Bool → List Test) → Bool → List Test
+carry_step (Cond-F.Test test) negated = test_under negated test ∷ []
+carry_step (Cond-F.Not carry) negated = carry (not negated)
+carry_step (Cond-F.And carries) negated = flat_map (λ (carry : Bool → List Test). carry negated) carries
+carry_step (Cond-F.Or carries) negated = flat_map (λ (carry : Bool → List Test). carry negated) carries
+
+-- the tests of a condition in text order, with the NOTs above each carried into it
+abbrev pub carried_tests : Cond → List Test
+carried_tests cond = fold-Cond (Bool → List Test) carry_step cond false
+
+-- the two comparisons that BETWEEN or NOT BETWEEN stands for
+abbrev pub as_comparisons : Name → Bool → Value → Value → List Test
+as_comparisons column negated low high =
+    test_under negated (tests.Compare column ops.Ge low) ∷ test_under negated (tests.Compare column ops.Le high) ∷ []
+
+-- a list of values without its NULLs; a list of NULLs alone as it is
+abbrev pub without_nulls : List Value → List Value
+without_nulls values = if list_all is_null values then values else filter (λ (value : Value). not (is_null value)) values
+
+-- a test as it is planned: a BETWEEN with a NULL end as its two comparisons, an IN without its NULLs
+abbrev pub planned_tests : Test → List Test
+planned_tests (tests.Compare column op value) = tests.Compare column op value ∷ []
+planned_tests (tests.Columns left op right) = tests.Columns left op right ∷ []
+planned_tests (tests.Between column negated low high) =
+    if is_null low || is_null high then as_comparisons column negated low high else tests.Between column negated low high ∷ []
+planned_tests (tests.OneOf column true values) = tests.OneOf column true values ∷ []
+planned_tests (tests.OneOf column false values) = tests.OneOf column false (without_nulls values) ∷ []
+planned_tests (tests.Null column negated) = tests.Null column negated ∷ []

@@ -1,0 +1,5 @@
+pub mod Truths
+pub mod Conditions
+pub mod Carried
+pub mod Servers
+pub mod PlanTexts
