@@ -1,6 +1,6 @@
 -- NOT carried to the tests, and the tests as they are planned.
-use Rattle.std.specs.Prelude.{Bool, true, false, not, ◌||◌, List, [], ◌∷◌, filter, map, flat_map, if◌then◌else◌}
-use Rattle.std.specs.List.{list_any, list_all}
+use Rattle.std.specs.Prelude.{Bool, true, false, not, ◌||◌, List, [], ◌∷◌, filter, flat_map, if◌then◌else◌}
+use Rattle.std.specs.List.{list_all}
 use Rattle.iq_base.specs.Shorts.{Name}
 use Rattle.iq_base.specs.declared.values.Value.{Value}
 use Rattle.iq_ast.specs.declared.conditions.Op.{Op}

@@ -1,5 +1,5 @@
 -- The truth of a condition on a row, and the tests and names that stand in it.
-use Rattle.std.specs.Prelude.{List, [], ◌∷◌, ◌++◌, map, flat_map}
+use Rattle.std.specs.Prelude.{List, [], ◌∷◌, flat_map}
 use Rattle.iq_base.specs.Shorts.{Name}
 use Rattle.iq_base.specs.declared.values.Value.{Value}
 use Rattle.iq_ast.specs.declared.conditions.Test.{Test}

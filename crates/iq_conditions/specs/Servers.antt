@@ -1,5 +1,5 @@
 -- What serves a test of a table: the first index of the test's row that the column has; of two of one kind the older.
-use Rattle.std.specs.Prelude.{ℕ, Bool, true, false, ◌&&◌, ◌||◌, List, [], ◌∷◌, Option, Some, None, nat_eq, if◌then◌else◌}
+use Rattle.std.specs.Prelude.{ℕ, Bool, true, false, ◌&&◌, ◌||◌, List, [], ◌∷◌, Option, Some, None, nat_eq}
 use Rattle.std.specs.List.{position, list_any, list_all}
 use Rattle.std.specs.Cmp.Lexicographic.{pointwise}
 use Rattle.iq_base.specs.Shorts.{Name}
@@ -7,7 +7,6 @@ use Rattle.iq_base.specs.declared.schemas.Column.{Column}
 use Rattle.iq_base.specs.declared.schemas.IndexKind.{IndexKind}
 use Rattle.iq_base.specs.declared.schemas.IndexKind.TheVariants as kinds
 use Rattle.iq_base.specs.declared.descriptors.IndexSpec.{IndexSpec}
-use Rattle.iq_base.specs.declared.values.Value.{Value}
 use Rattle.iq_ast.specs.declared.conditions.Op.{Op}
 use Rattle.iq_ast.specs.declared.conditions.Op.TheVariants as ops
 use Rattle.iq_ast.specs.declared.conditions.Test.{Test}

@@ -1,13 +1,5 @@
-// A library with one function.
+//! What the statements on tables mean, over plain tables: the first refusal, the answer of a query, the effect of a write.
+//!
+//! Contracts see a database as a list of tables with ascending names, `answer` of specs/Answers, `effect` of specs/Effects, and the
+//! tests that may refuse a statement as one list. Below stand `iq_conditions` and the types of `iq_model`; above stands `iq_replay`.
 #![tactic(auto)]
-
-ghost use Rattle.std.specs.Prelude.{◌≡◌};
-ghost use Rattle.iq_statements.specs.Echo.{echo_of};
-
-// The `ensures` clause is the contract: what `echo` returns is `echo_of` of its argument, a definition
-// in `specs/Echo.antt`, which a caller's clause can cite too.
-pub fn echo(x: usize) -> usize
-    ensures { result ≡ echo_of x }
-{
-    x
-}
