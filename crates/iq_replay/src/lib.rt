@@ -1,13 +1,5 @@
-// A library with one function.
+//! What a run means: the replayed state, legal histories, and what their lines are answered.
+//!
+//! Contracts see a history as a list of entries, legal where each is possible after those before it: `IsPossible` and `change` of
+//! specs/Entries, side by side. Below stand `iq_statements`, the entries of `iq_history` and the types of `iq_model`.
 #![tactic(auto)]
-
-ghost use Rattle.std.specs.Prelude.{◌≡◌};
-ghost use Rattle.iq_replay.specs.Echo.{echo_of};
-
-// The `ensures` clause is the contract: what `echo` returns is `echo_of` of its argument, a definition
-// in `specs/Echo.antt`, which a caller's clause can cite too.
-pub fn echo(x: usize) -> usize
-    ensures { result ≡ echo_of x }
-{
-    x
-}
