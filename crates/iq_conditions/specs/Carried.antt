@@ -1,5 +1,5 @@
 -- NOT carried to the tests, and the tests as they are planned.
-use Rattle.std.specs.Prelude.{Bool, true, false, not, ◌||◌, List, [], ◌∷◌, filter, flat_map, if◌then◌else◌}
+use Rattle.std.specs.Prelude.{Bool, true, false, not, ◌||◌, List, [], ◌∷◌, ◌++◌, filter, if◌then◌else◌}
 use Rattle.std.specs.List.{list_all}
 use Rattle.iq_base.specs.Shorts.{Name}
 use Rattle.iq_base.specs.declared.values.Value.{Value}
@@ -7,9 +7,9 @@ use Rattle.iq_ast.specs.declared.conditions.Op.{Op}
 use Rattle.iq_ast.specs.declared.conditions.Op.TheVariants as ops
 use Rattle.iq_ast.specs.declared.conditions.Test.{Test}
 use Rattle.iq_ast.specs.declared.conditions.Test.TheVariants as tests
-use Rattle.iq_ast.specs.declared.conditions.Cond.{Cond, fold-Cond}
-use Rattle.iq_ast.specs.declared.conditions.Cond.TheOpen.{Cond-F}
+use Rattle.iq_ast.specs.declared.conditions.Cond.{Cond}
 use Rattle.iq_conditions.specs.Truths.{is_null}
+use Rattle.iq_conditions.specs.Conditions.{Levels, cond_fold}
 
 -- under NOT, = and <>, < and >=, > and <= change places
 abbrev pub negated_op : Op → Op
@@ -33,16 +33,23 @@ abbrev pub test_under : Bool → Test → Test
 test_under true test = negated_test test
 test_under false test = test
 
--- one level of a condition: its tests, under an even or an odd number of NOTs
-abbrev pub carry_step : Cond-F (Bool → List Test) → Bool → List Test
-carry_step (Cond-F.Test test) negated = test_under negated test ∷ []
-carry_step (Cond-F.Not carry) negated = carry (not negated)
-carry_step (Cond-F.And carries) negated = flat_map (λ (carry : Bool → List Test). carry negated) carries
-carry_step (Cond-F.Or carries) negated = flat_map (λ (carry : Bool → List Test). carry negated) carries
+-- the tests of a level, under an even or an odd number of NOTs
+abbrev pub carry_test : Test → Bool → List Test
+carry_test test negated = test_under negated test ∷ []
+
+abbrev pub carry_all : List (Bool → List Test) → Bool → List Test
+carry_all [] negated = []
+carry_all (carry ∷ carries) negated = carry negated ++ carry_all carries negated
+
+abbrev pub carry_not : List (Bool → List Test) → Bool → List Test
+carry_not carries negated = carry_all carries (not negated)
+
+abbrev pub carry_levels : Levels (Bool → List Test)
+carry_levels = record { test = carry_test; not_of = carry_not; all_of = carry_all; any_of = carry_all }
 
 -- the tests of a condition in text order, with the NOTs above each carried into it
 abbrev pub carried_tests : Cond → List Test
-carried_tests cond = fold-Cond (Bool → List Test) carry_step cond false
+carried_tests cond = cond_fold carry_levels cond false
 
 -- the two comparisons that BETWEEN or NOT BETWEEN stands for
 abbrev pub as_comparisons : Name → Bool → Value → Value → List Test
