@@ -9,7 +9,7 @@ use Rattle.iq_model.specs.declared.replies.Said.TheVariants as said
 use Rattle.iq_model.specs.declared.scripts.Script.{Script}
 use Rattle.iq_replay.specs.State.{State}
 use Rattle.iq_replay.specs.Start.{start}
-use Rattle.iq_replay_tests.specs.Words.{node, session, line, create, insert, delete_all, drop_table, select, reply}
+use Rattle.iq_replay_tests.specs.Words.{node, session, line, create, insert, delete_all, drop_table, select, reply, no_space}
 
 abbrev pub script : Script
 script =
@@ -38,7 +38,7 @@ history =
     ∷ entries.Commit 0 1 1
     ∷ entries.Begin 0 2 1
     ∷ entries.Lock 0 2 (codes "t" ∷ [])
-    ∷ entries.Refused (Some 0) 2 (refusals.NoSpace (record { free = 0; reserved = 10; private = 20; reached = 5; waiting = 25 }))
+    ∷ entries.Refused (Some 0) 2 (no_space 0 10 20 5 25)
     ∷ entries.Begin 0 3 1
     ∷ entries.Lock 0 3 (codes "t" ∷ [])
     ∷ entries.Refused (Some 0) 3 (refusals.BadPage 256 0)
@@ -57,7 +57,7 @@ history =
 abbrev pub answered : List (Option Reply)
 answered =
     reply 1 (said.Created (Some 1))
-    ∷ reply 2 (said.Refused (refusals.NoSpace (record { free = 0; reserved = 10; private = 20; reached = 5; waiting = 25 })))
+    ∷ reply 2 (said.Refused (no_space 0 10 20 5 25))
     ∷ reply 3 (said.Refused (refusals.BadPage 256 0))
     ∷ reply 4 (said.Inserted 1 (Some 2))
     ∷ reply 5 (said.Dropped (Some 3))

@@ -9,3 +9,4 @@ pub mod FullStores
 pub mod Interleaved
 pub mod LostAtTheEnd
 pub mod WantOfMemory
+pub mod Queries

@@ -12,7 +12,7 @@ use Rattle.iq_model.specs.declared.scripts.Script.{Script}
 use Rattle.iq_model.specs.declared.scripts.Step.TheVariants as steps
 use Rattle.iq_replay.specs.State.{State}
 use Rattle.iq_replay.specs.Start.{start}
-use Rattle.iq_replay_tests.specs.Words.{node, session, line, step, create, insert, reply}
+use Rattle.iq_replay_tests.specs.Words.{node, session, line, step, create, insert, reply, census}
 
 abbrev pub script : Script
 script =
@@ -55,7 +55,7 @@ history =
     ∷ entries.Lose 9 1
     ∷ entries.Refused None 10 (refusals.NoReport 1)
     ∷ entries.Refused None 11 (refusals.NoReport 1)
-    ∷ entries.Space 12 (record { free = 52; reserved = 0; private = 0; reached = 7; waiting = 1 })
+    ∷ entries.Space 12 (census 52 0 0 7 1)
     ∷ entries.Send 1 13 2 2
     ∷ entries.Take 14 2 2 1
     ∷ entries.Own 0 15 2 0
@@ -72,7 +72,7 @@ answered =
     ∷ reply 9 (said.Lost 1)
     ∷ reply 10 (said.Refused (refusals.NoReport 1))
     ∷ reply 11 (said.Refused (refusals.NoReport 1))
-    ∷ reply 12 (said.Space (record { free = 52; reserved = 0; private = 0; reached = 7; waiting = 1 }))
+    ∷ reply 12 (said.Space (census 52 0 0 7 1))
     ∷ reply 13 (said.Sent (sent.Bagged 2 2))
     ∷ reply 14 (said.Taken (record { horizon = 2; freed = 1 }))
     ∷ reply 15 (said.Sent (sent.Own 2 0))

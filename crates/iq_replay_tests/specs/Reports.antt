@@ -12,7 +12,7 @@ use Rattle.iq_model.specs.declared.scripts.Script.{Script}
 use Rattle.iq_model.specs.declared.scripts.Step.TheVariants as steps
 use Rattle.iq_replay.specs.State.{State}
 use Rattle.iq_replay.specs.Start.{start}
-use Rattle.iq_replay_tests.specs.Words.{node, session, line, step, create, insert, delete_all, delete_equal, select, reply, rows}
+use Rattle.iq_replay_tests.specs.Words.{node, session, line, step, create, insert, delete_all, delete_equal, select, reply, rows, census}
 
 abbrev pub script : Script
 script =
@@ -77,7 +77,7 @@ history =
     ∷ entries.Take 18 1 2 0
     ∷ entries.Take 19 2 4 6
     ∷ entries.Take 20 1 4 0
-    ∷ entries.Space 21 (record { free = 53; reserved = 0; private = 0; reached = 7; waiting = 0 })
+    ∷ entries.Space 21 (census 53 0 0 7 0)
     ∷ entries.Refused None 22 (refusals.AtEnd 4)
     ∷ entries.Refused (Some 1) 23 (refusals.ReadOnly (codes "r1"))
     ∷ entries.Versions 24
@@ -101,7 +101,7 @@ answered =
     ∷ reply 18 (said.Taken (record { horizon = 2; freed = 0 }))
     ∷ reply 19 (said.Taken (record { horizon = 4; freed = 6 }))
     ∷ reply 20 (said.Taken (record { horizon = 4; freed = 0 }))
-    ∷ reply 21 (said.Space (record { free = 53; reserved = 0; private = 0; reached = 7; waiting = 0 }))
+    ∷ reply 21 (said.Space (census 53 0 0 7 0))
     ∷ reply 22 (said.Refused (refusals.AtEnd 4))
     ∷ reply 23 (said.Refused (refusals.ReadOnly (codes "r1")))
     ∷ reply 24 (said.Versions (record { latest = 4; horizon = 4; nodes = record { node = 0; position = 4; floor = 4; taken = 4; incarnation = 1 } ∷ record { node = 1; position = 4; floor = 4; taken = 4; incarnation = 1 } ∷ [] }))

@@ -11,7 +11,7 @@ use Rattle.iq_model.specs.declared.scripts.Script.{Script}
 use Rattle.iq_model.specs.declared.scripts.Step.TheVariants as steps
 use Rattle.iq_replay.specs.State.{State}
 use Rattle.iq_replay.specs.Start.{start}
-use Rattle.iq_replay_tests.specs.Words.{node, session, line, step, create, insert, reply}
+use Rattle.iq_replay_tests.specs.Words.{node, session, line, step, create, insert, reply, census}
 
 abbrev pub script : Script
 script =
@@ -46,9 +46,9 @@ history =
     ∷ entries.Begin 1 7 1
     ∷ entries.Lock 1 8 (codes "t" ∷ [])
     ∷ entries.Done 1 8
-    ∷ entries.Space 9 (record { free = 27; reserved = 25; private = 7; reached = 1; waiting = 0 })
+    ∷ entries.Space 9 (census 27 25 7 1 0)
     ∷ entries.Restart 1 10 2
-    ∷ entries.Space 11 (record { free = 59; reserved = 0; private = 0; reached = 1; waiting = 0 })
+    ∷ entries.Space 11 (census 59 0 0 1 0)
     ∷ entries.Refused (Some 1) 12 (refusals.Lost 2)
     ∷ entries.Refused (Some 1) 13 refusals.NoTransaction
     ∷ entries.Begin 1 14 1
@@ -63,9 +63,9 @@ answered =
     ∷ reply 6 (said.Synced 1)
     ∷ reply 7 (said.Begun 1)
     ∷ reply 8 (said.Inserted 1 None)
-    ∷ reply 9 (said.Space (record { free = 27; reserved = 25; private = 7; reached = 1; waiting = 0 }))
+    ∷ reply 9 (said.Space (census 27 25 7 1 0))
     ∷ reply 10 (said.Restarted 2)
-    ∷ reply 11 (said.Space (record { free = 59; reserved = 0; private = 0; reached = 1; waiting = 0 }))
+    ∷ reply 11 (said.Space (census 59 0 0 1 0))
     ∷ reply 12 (said.Refused (refusals.Lost 2))
     ∷ reply 13 (said.Refused (refusals.NoTransaction))
     ∷ reply 14 (said.Inserted 1 (Some 2))

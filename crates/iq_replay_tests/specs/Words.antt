@@ -4,6 +4,9 @@ use Rattle.iq_base.specs.Shorts.{Name}
 use Rattle.iq_base.specs.declared.nodes.NodeKind.{NodeKind}
 use Rattle.iq_base.specs.declared.nodes.NodeSpec.{NodeSpec}
 use Rattle.iq_base.specs.declared.nodes.SessionSpec.{SessionSpec}
+use Rattle.iq_base.specs.declared.refusals.Census.{Census}
+use Rattle.iq_base.specs.declared.refusals.Refusal.{Refusal}
+use Rattle.iq_base.specs.declared.refusals.Refusal.TheVariants as refusals
 use Rattle.iq_base.specs.declared.schemas.Column.{Column}
 use Rattle.iq_base.specs.declared.values.Kind.TheVariants as kinds
 use Rattle.iq_base.specs.declared.values.Value.{Value}
@@ -91,6 +94,14 @@ out_row number = outs.Int (pos number) ∷ []
 
 abbrev pub rows : List ℕ → Said
 rows numbers = said.Answer (answers.Rows (map out_row numbers))
+
+-- a census; why a write finds no block
+abbrev pub census : ℕ → ℕ → ℕ → ℕ → ℕ → Census
+census free reserved private reached waiting =
+    record { free = free; reserved = reserved; private = private; reached = reached; waiting = waiting }
+
+abbrev pub no_space : ℕ → ℕ → ℕ → ℕ → ℕ → Refusal
+no_space free reserved private reached waiting = refusals.NoSpace (census free reserved private reached waiting)
 
 -- HISTORIES
 

@@ -3,7 +3,7 @@ ghost use Rattle.std.specs.Prelude.{◌≡◌, ◌∷◌, [], Some, None, codes}
 ghost use Rattle.iq_history.specs.declared.entries.Entry.TheVariants as entries;
 ghost use Rattle.iq_base.specs.declared.refusals.Refusal.TheVariants as refusals;
 ghost use Rattle.iq_replay.specs.Histories.{replay, replies, IsLegal, IsWhole, IsInOrder};
-ghost use Rattle.iq_replay_tests.specs.Words.{with_entry, without_entry};
+ghost use Rattle.iq_replay_tests.specs.Words.{with_entry, without_entry, census};
 ghost use Rattle.iq_replay_tests.specs.LostReports.{script, before, history, answered};
 
 /// A report that is lost can't be taken; the next frees what waits. The coordinator isn't restarted, nor a node that isn't there.
@@ -22,5 +22,5 @@ pub fn other_histories_of_a_lost_report()
     ensures the_coordinator_is_restarted { ¬ (IsLegal before
         (with_entry 17 (entries.Restart 0 16 2) history)) }
     ensures a_block_too_many { ¬ (IsLegal before
-        (with_entry 13 (entries.Space 12 (record { free = 53; reserved = 0; private = 0; reached = 7; waiting = 1 })) history)) }
+        (with_entry 13 (entries.Space 12 (census 53 0 0 7 1)) history)) }
 {}

@@ -3,7 +3,7 @@ ghost use Rattle.std.specs.Prelude.{◌≡◌, ◌∷◌, [], Some, None, codes}
 ghost use Rattle.iq_history.specs.declared.entries.Entry.TheVariants as entries;
 ghost use Rattle.iq_base.specs.declared.refusals.Refusal.TheVariants as refusals;
 ghost use Rattle.iq_replay.specs.Histories.{replay, replies, IsLegal, IsWhole, IsInOrder};
-ghost use Rattle.iq_replay_tests.specs.Words.{with_entry, without_entry};
+ghost use Rattle.iq_replay_tests.specs.Words.{with_entry, without_entry, census};
 ghost use Rattle.iq_replay_tests.specs.Restarts.{script, before, history, answered};
 
 /// After a restart the session is told Lost once, and then has no transaction.
@@ -20,5 +20,5 @@ pub fn other_histories_of_a_restart()
     ensures a_loss_is_not_told { ¬ (IsLegal before
         (with_entry 11 (entries.Refused (Some 1) 12 refusals.NoTransaction) history)) }
     ensures a_block_is_missing { ¬ (IsLegal before
-        (with_entry 10 (entries.Space 11 (record { free = 58; reserved = 0; private = 0; reached = 1; waiting = 0 })) history)) }
+        (with_entry 10 (entries.Space 11 (census 58 0 0 1 0)) history)) }
 {}

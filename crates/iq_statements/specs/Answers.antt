@@ -2,7 +2,6 @@
 use Rattle.std.specs.Prelude.{ℤ, pos, List, [], ◌∷◌, Option, Some, None, length, map, if◌then◌else◌}
 use Rattle.std.specs.declared.cmp.Ordering.{Ordering}
 use Rattle.iq_base.specs.declared.values.Value.{Value}
-use Rattle.iq_base.specs.declared.values.Value.TheVariants as values
 use Rattle.iq_base.specs.declared.schemas.Column.{Column}
 use Rattle.iq_ast.specs.declared.statements.Item.{Item}
 use Rattle.iq_ast.specs.declared.statements.Item.TheVariants as items
@@ -12,17 +11,12 @@ use Rattle.iq_model.specs.declared.answers.Answer.{Answer}
 use Rattle.iq_model.specs.declared.answers.Answer.TheVariants as answers
 use Rattle.iq_model.specs.declared.answers.Out.{Out}
 use Rattle.iq_model.specs.declared.answers.Out.TheVariants as outs
+use Rattle.iq_model.specs.Outs.{out_of}
 use Rattle.iq_conditions.specs.PlanTexts.{plan_texts}
 use Rattle.iq_statements.specs.Tables.{Table, Database, content, table_of}
 use Rattle.iq_statements.specs.Rows.{value_named, column_values, kept_rows, row_order, in_order}
 use Rattle.iq_statements.specs.Named.{is_grouped, members_of}
 use Rattle.iq_statements.specs.Groups.{groups_by, without_null, sum_of, least_of, greatest_of}
-
--- a value as it is answered
-abbrev pub out_of : Value → Out
-out_of values.Null = outs.Null
-out_of (values.Int number) = outs.Int number
-out_of (values.Text text) = outs.Text text
 
 -- a sum as it is answered: NULL where no number was added
 abbrev pub sum_out : Option ℤ → Out

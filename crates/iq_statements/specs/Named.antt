@@ -3,6 +3,7 @@ use Rattle.std.specs.Prelude.{ℕ, ◌+◌, Bool, true, false, not, ◌||◌, Li
 use Rattle.std.specs.List.{list_any, filter_map}
 use Rattle.std.specs.Option.{option_or}
 use Rattle.iq_base.specs.Shorts.{Name}
+use Rattle.iq_base.specs.declared.limits.TheConstants.{MOST_TABLES}
 use Rattle.iq_base.specs.declared.values.Value.{Value}
 use Rattle.iq_base.specs.declared.schemas.Column.{Column}
 use Rattle.iq_base.specs.declared.refusals.Refusal.{Refusal}
@@ -24,10 +25,7 @@ use Rattle.iq_statements.specs.Checks.{Check, found_if, first_found}
 use Rattle.iq_statements.specs.Tables.{Table, Database, table_of, has_index}
 use Rattle.iq_statements.specs.Fits.{test_mismatch, item_mismatch, change_refusal}
 
--- how many tables there can be, and how many indexes of a table
-abbrev pub most_tables : ℕ
-most_tables = 64
-
+-- how many indexes a table can have
 abbrev pub most_indexes : ℕ
 most_indexes = 32
 
@@ -161,7 +159,7 @@ index_checks name column second t =
 abbrev pub create_checks : Name → Database → List Check
 create_checks name db =
     named (found_if (is_some (table_of name db)) (refusals.TableExists name))
-    ∷ named (found_if (nat_le most_tables (length db)) refusals.CatalogFull)
+    ∷ named (found_if (nat_le MOST_TABLES (length db)) refusals.CatalogFull)
     ∷ []
 
 abbrev pub write_checks : Write → Database → List Check

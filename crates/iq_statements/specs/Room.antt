@@ -1,5 +1,5 @@
 -- The tests that come once a write's names are locked: row limits, indexes that don't fit, too many distinct values.
-use Rattle.std.specs.Prelude.{ℕ, ◌+◌, List, [], ◌∷◌, ◌++◌, Option, Some, None, length, map, nat_lt, if◌then◌else◌}
+use Rattle.std.specs.Prelude.{ℕ, ◌+◌, true, List, [], ◌∷◌, ◌++◌, Option, Some, None, length, map, nat_lt, if◌then◌else◌}
 use Rattle.std.specs.Option.{option_and_then}
 use Rattle.iq_base.specs.Shorts.{Name}
 use Rattle.iq_base.specs.Limits.{row_limit}
@@ -10,7 +10,7 @@ use Rattle.iq_base.specs.declared.refusals.Refusal.{Refusal}
 use Rattle.iq_base.specs.declared.refusals.Refusal.TheVariants as refusals
 use Rattle.iq_ast.specs.declared.statements.Write.{Write}
 use Rattle.iq_ast.specs.declared.statements.Write.TheVariants as writes
-use Rattle.iq_statements.specs.Tables.{Table, Database, all_rows, table_of, is_low_fast}
+use Rattle.iq_statements.specs.Tables.{Table, Database, all_rows, table_of, has_low_fast, is_low_fast}
 use Rattle.iq_statements.specs.Rows.{value_at}
 use Rattle.iq_statements.specs.Checks.{Check, found_if, first_found}
 use Rattle.iq_statements.specs.Fits.{column_named, index_unfit}
@@ -46,13 +46,13 @@ too_many rows index =
 -- rows that are appended: the table's limit, and then its Low Fast indexes, the oldest first
 abbrev pub append_checks : List (List Value) → Table → List Check
 append_checks rows t =
-    room (table_full (row_limit t.columns) (length t.slots + length rows))
+    room (table_full (row_limit t.columns (has_low_fast t)) (length t.slots + length rows))
     ∷ room (first_found (too_many (all_rows t ++ rows)) t.indexes)
     ∷ []
 
 -- the row limit of a table that gets a Low Fast index
 abbrev pub low_fast_full : IndexKind → Table → Option Refusal
-low_fast_full kind t = if is_low_fast kind then table_full (row_limit t.columns) (length t.slots) else None
+low_fast_full kind t = if is_low_fast kind then table_full (row_limit t.columns true) (length t.slots) else None
 
 -- a new index: the limit with it, its columns, and its distinct values
 abbrev pub new_index_checks : Name → IndexKind → Name → Option Name → Table → List Check
