@@ -1,9 +1,10 @@
 -- Histories that are put together: their state, and whether they are legal.
-use Rattle.std.specs.Prelude.{◌≡◌, refl, List, [], ◌∷◌, ◌++◌}
+use Rattle.std.specs.Prelude.{◌≡◌, ◌||◌, refl, ℕ, true, nat_le, List, [], ◌∷◌, ◌++◌}
 use Rattle.iq_history.specs.declared.entries.Entry.{Entry}
 use Rattle.iq_replay.specs.State.{State}
 use Rattle.iq_replay.specs.Entries.{IsPossible, change}
-use Rattle.iq_replay.specs.Histories.{replay, IsLegal}
+use Rattle.iq_replay.specs.Histories.{replay, IsLegal, IsInOrder, closes, line_of, low_after}
+use Rattle.iq_replay.specs.Laws.{low_behind}
 
 pub replay-append : (s : State) (es fs : List Entry) → replay s (es ++ fs) ≡ replay (replay s es) fs
 unfolding replay
@@ -34,3 +35,7 @@ pub IsLegal-push : (s : State) (es : List Entry) (e : Entry) → IsLegal s es �
 unfolding replay IsLegal
 IsLegal-push s [] e h p = (p, tt)
 IsLegal-push s (f ∷ es) e h p = (h.0, IsLegal-push (change s f) es e h.1 p)
+
+pub IsInOrder-push : (low : ℕ) (es : List Entry) (e : Entry) → IsInOrder low es → (closes e || nat_le (low_behind low es) (line_of e)) ≡ true → IsInOrder low (es ++ e ∷ [])
+IsInOrder-push low [] e h p = (p, tt)
+IsInOrder-push low (f ∷ es) e h p = (h.0, IsInOrder-push (low_after low f) es e h.1 p)
