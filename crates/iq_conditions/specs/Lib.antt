@@ -1,0 +1,4 @@
+pub mod Conditions
+pub mod Carried
+pub mod Servers
+pub mod PlanTexts

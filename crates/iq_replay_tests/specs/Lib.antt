@@ -1,0 +1,12 @@
+pub mod Words
+pub mod Locking
+pub mod Reports
+pub mod LostReports
+pub mod Restarts
+pub mod Savepoints
+pub mod Halts
+pub mod FullStores
+pub mod Interleaved
+pub mod LostAtTheEnd
+pub mod WantOfMemory
+pub mod Queries
