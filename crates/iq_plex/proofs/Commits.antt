@@ -16,7 +16,8 @@ use Rattle.iq_ast.specs.declared.statements.Statement.TheVariants as statements
 use Rattle.iq_ast.specs.declared.statements.Write.{Write}
 use Rattle.iq_ast.specs.declared.statements.Write.TheVariants as writes
 use Rattle.iq_model.specs.Tables.{Table, Database, same_name, table_of, placed, replaced, with_rows, empty_table}
-use Rattle.iq_model.specs.Statements.{first_refusal, found_if, insert_checks, room_check, statement_checks, room_checks, tables_after, inserted, most_tables}
+use Rattle.iq_base.specs.declared.limits.TheConstants.{MOST_TABLES}
+use Rattle.iq_model.specs.Statements.{first_refusal, found_if, insert_checks, room_check, statement_checks, room_checks, tables_after, inserted}
 use Rattle.iq_model.specs.State.{Work, committed, written_names, locks}
 use Rattle.iq_model.specs.History.{takes_effect}
 use Rattle.iq_plex.proofs.Names.{same_name-refl, same_name-true, not_catalog}
@@ -97,7 +98,7 @@ commits_insert name rows newest (Some t) is free granted =
 
 -- the commit of a CREATE TABLE
 commits_create : (name : Name) (schema : Schema) (newest : Database) (found : Option Table) → table_of name newest ≡ found → is_reserved name ≡ false
-    → option_or (found_if (is_some found) (refusals.TableExists name)) (option_or (found_if (nat_le most_tables (length newest)) refusals.CatalogFull) None) ≡ None
+    → option_or (found_if (is_some found) (refusals.TableExists name)) (option_or (found_if (nat_le MOST_TABLES (length newest)) refusals.CatalogFull) None) ≡ None
     → committed (record { seen = placed (empty_table name schema.columns) newest; held = catalog_name ∷ []; created = name ∷ [] }) newest ≡ placed (empty_table name schema.columns) newest
 commits_create name schema newest (Some t) is free granted = cc
 commits_create name schema newest None is free granted = commits_placed name newest (empty_table name schema.columns) free refl is

@@ -7,7 +7,7 @@ pub mod Ends
 pub mod Start
 pub mod Places
 pub mod LookUps
-pub mod Fitting
+pub mod Slots
 pub mod Writing
 pub mod Keeping
 pub mod Walking

@@ -14,7 +14,8 @@ use Rattle.iq_base.specs.declared.schemas.Column.{Column}
 use Rattle.iq_base.specs.declared.refusals.Refusal.TheVariants as refusals
 use Rattle.iq_ast.specs.declared.statements.Write.{Write}
 use Rattle.iq_ast.specs.declared.statements.Write.TheVariants as writes
-use Rattle.iq_model.specs.Statements.{first_refusal, found_if, most_tables, create_checks, insert_checks, write_checks, first_bad_row}
+use Rattle.iq_base.specs.declared.limits.TheConstants.{MOST_TABLES}
+use Rattle.iq_model.specs.Statements.{first_refusal, found_if, create_checks, insert_checks, write_checks, first_bad_row}
 use Rattle.iq_model.specs.Tables.{Table, Database, same_name, table_of, replaced, placed}
 use Rattle.iq_plex.specs.declared.stored.Stored.{Stored}
 use Rattle.iq_plex.specs.Stored.{StandsFor, StandFor, named, bare_table, bare, place_from, before_from}
@@ -37,7 +38,7 @@ pub record Found (ss : List Stored) (name : Name) (db : Database) (i : ℕ) : Ty
 -- what a look-up from place n on finds is past n
 pub past_place : (n i : ℕ) (name : Name) (ss : List Stored) → place_from n name ss ≡ Some i → n ≤ i
 past_place n i name [] h = cc
-past_place n i name (s ∷ ss) h = either n i name ss (same_name s.table.name name) h (past_place (n + 1) i name ss)
+past_place n i name (s ∷ ss) h = either n i name ss (same_name s.table.parts.name name) h (past_place (n + 1) i name ss)
   where
     either : (n i : ℕ) (name : Name) (ss : List Stored) (b : Bool) → cond b (Some n) (place_from (n + 1) name ss) ≡ Some i → (place_from (n + 1) name ss ≡ Some i → n + 1 ≤ i) → n ≤ i
     either n i name ss true h further = let same : n ≡ i = cc in omega arith
@@ -48,9 +49,9 @@ pub none_found : (n : ℕ) (name : Name) (ss : List Stored) (db : Database) → 
 none_found n name [] [] h stand = refl
 none_found n name [] (t ∷ ts) h stand = absurd stand
 none_found n name (s ∷ ss) [] h stand = absurd stand
-none_found n name (s ∷ ss) (t ∷ ts) h stand = either n name s ss t ts (same_name s.table.name name) refl h stand (none_found (n + 1) name ss ts)
+none_found n name (s ∷ ss) (t ∷ ts) h stand = either n name s ss t ts (same_name s.table.parts.name name) refl h stand (none_found (n + 1) name ss ts)
   where
-    either : (n : ℕ) (name : Name) (s : Stored) (ss : List Stored) (t : Table) (ts : Database) (b : Bool) → same_name s.table.name name ≡ b → cond (same_name s.table.name name) (Some n) (place_from (n + 1) name ss) ≡ None → StandFor (s ∷ ss) (t ∷ ts)
+    either : (n : ℕ) (name : Name) (s : Stored) (ss : List Stored) (t : Table) (ts : Database) (b : Bool) → same_name s.table.parts.name name ≡ b → cond (same_name s.table.parts.name name) (Some n) (place_from (n + 1) name ss) ≡ None → StandFor (s ∷ ss) (t ∷ ts)
         → (place_from (n + 1) name ss ≡ None → StandFor ss ts → table_of name ts ≡ None) → table_of name (t ∷ ts) ≡ None
     either n name s ss t ts true is h stand further = let clash : Some n ≡ None = sym (rw is refl) ∙ h in cc
     either n name s ss t ts false is h stand further =
@@ -62,17 +63,17 @@ pub found : (name : Name) (ss : List Stored) (db : Database) (i n : ℕ) → pla
 found name [] [] i n h stand = cc
 found name [] (t ∷ ts) i n h stand = absurd stand
 found name (s ∷ ss) [] i n h stand = absurd stand
-found name (s ∷ ss) (t ∷ ts) zero n h stand = here name s ss t ts n (same_name s.table.name name) refl h stand
+found name (s ∷ ss) (t ∷ ts) zero n h stand = here name s ss t ts n (same_name s.table.parts.name name) refl h stand
   where
-    here : (name : Name) (s : Stored) (ss : List Stored) (t : Table) (ts : Database) (n : ℕ) (b : Bool) → same_name s.table.name name ≡ b → cond (same_name s.table.name name) (Some n) (place_from (n + 1) name ss) ≡ Some (n + 0) → StandFor (s ∷ ss) (t ∷ ts) → Found (s ∷ ss) name (t ∷ ts) 0
+    here : (name : Name) (s : Stored) (ss : List Stored) (t : Table) (ts : Database) (n : ℕ) (b : Bool) → same_name s.table.parts.name name ≡ b → cond (same_name s.table.parts.name name) (Some n) (place_from (n + 1) name ss) ≡ Some (n + 0) → StandFor (s ∷ ss) (t ∷ ts) → Found (s ∷ ss) name (t ∷ ts) 0
     here name s ss t ts n true is h stand =
         let own : same_name t.name name ≡ true = ap (λ (m : Name). same_name m name) (sym stand.0.name_is) ∙ is in
         record { stored = s; table = t; stored_is = refl; table_is = rw own refl; stands = stand.0 }
     here name s ss t ts n false is h stand =
         let past : n + 1 ≤ n + 0 = past_place (n + 1) (n + 0) name ss (sym (rw is refl) ∙ h) in absurd (omega arith)
-found name (s ∷ ss) (t ∷ ts) (suc i) n h stand = further name s ss t ts i n (same_name s.table.name name) refl h stand (found name ss ts i (n + 1))
+found name (s ∷ ss) (t ∷ ts) (suc i) n h stand = further name s ss t ts i n (same_name s.table.parts.name name) refl h stand (found name ss ts i (n + 1))
   where
-    further : (name : Name) (s : Stored) (ss : List Stored) (t : Table) (ts : Database) (i n : ℕ) (b : Bool) → same_name s.table.name name ≡ b → cond (same_name s.table.name name) (Some n) (place_from (n + 1) name ss) ≡ Some (n + suc i) → StandFor (s ∷ ss) (t ∷ ts)
+    further : (name : Name) (s : Stored) (ss : List Stored) (t : Table) (ts : Database) (i n : ℕ) (b : Bool) → same_name s.table.parts.name name ≡ b → cond (same_name s.table.parts.name name) (Some n) (place_from (n + 1) name ss) ≡ Some (n + suc i) → StandFor (s ∷ ss) (t ∷ ts)
         → (place_from (n + 1) name ss ≡ Some (n + 1 + i) → StandFor ss ts → Found ss name ts i) → Found (s ∷ ss) name (t ∷ ts) (suc i)
     further name s ss t ts i n true is h stand more =
         let same : Some n ≡ Some (n + suc i) = sym (rw is refl) ∙ h in
@@ -90,25 +91,25 @@ pub replaced-stand : (name : Name) (ss : List Stored) (db : Database) (i n : ℕ
 replaced-stand name [] [] i n new t' h stand is stands = cc
 replaced-stand name [] (t ∷ ts) i n new t' h stand is stands = absurd stand
 replaced-stand name (s ∷ ss) [] i n new t' h stand is stands = absurd stand
-replaced-stand name (s ∷ ss) (t ∷ ts) zero n new t' h stand is stands = here name s ss t ts n new t' (same_name s.table.name name) refl h stand is stands
+replaced-stand name (s ∷ ss) (t ∷ ts) zero n new t' h stand is stands = here name s ss t ts n new t' (same_name s.table.parts.name name) refl h stand is stands
   where
-    here : (name : Name) (s : Stored) (ss : List Stored) (t : Table) (ts : Database) (n : ℕ) (new : Stored) (t' : Table) (b : Bool) → same_name s.table.name name ≡ b → cond (same_name s.table.name name) (Some n) (place_from (n + 1) name ss) ≡ Some (n + 0) → StandFor (s ∷ ss) (t ∷ ts)
+    here : (name : Name) (s : Stored) (ss : List Stored) (t : Table) (ts : Database) (n : ℕ) (new : Stored) (t' : Table) (b : Bool) → same_name s.table.parts.name name ≡ b → cond (same_name s.table.parts.name name) (Some n) (place_from (n + 1) name ss) ≡ Some (n + 0) → StandFor (s ∷ ss) (t ∷ ts)
         → t'.name ≡ name → StandsFor new t' → StandFor (new ∷ ss) (replaced t' (t ∷ ts))
     here name s ss t ts n new t' true at h stand is stands =
-        let own : same_name t.name t'.name ≡ true = ap (λ (m : Name). same_name m t'.name) (sym stand.0.name_is) ∙ ap (same_name s.table.name) is ∙ at in
+        let own : same_name t.name t'.name ≡ true = ap (λ (m : Name). same_name m t'.name) (sym stand.0.name_is) ∙ ap (same_name s.table.parts.name) is ∙ at in
         rw own (stands, stand.1)
     here name s ss t ts n new t' false at h stand is stands =
         let past : n + 1 ≤ n + 0 = past_place (n + 1) (n + 0) name ss (sym (rw at refl) ∙ h) in absurd (omega arith)
-replaced-stand name (s ∷ ss) (t ∷ ts) (suc i) n new t' h stand is stands = further name s ss t ts i n new t' (same_name s.table.name name) refl h stand is stands (replaced-stand name ss ts i (n + 1) new t')
+replaced-stand name (s ∷ ss) (t ∷ ts) (suc i) n new t' h stand is stands = further name s ss t ts i n new t' (same_name s.table.parts.name name) refl h stand is stands (replaced-stand name ss ts i (n + 1) new t')
   where
-    further : (name : Name) (s : Stored) (ss : List Stored) (t : Table) (ts : Database) (i n : ℕ) (new : Stored) (t' : Table) (b : Bool) → same_name s.table.name name ≡ b → cond (same_name s.table.name name) (Some n) (place_from (n + 1) name ss) ≡ Some (n + suc i) → StandFor (s ∷ ss) (t ∷ ts)
+    further : (name : Name) (s : Stored) (ss : List Stored) (t : Table) (ts : Database) (i n : ℕ) (new : Stored) (t' : Table) (b : Bool) → same_name s.table.parts.name name ≡ b → cond (same_name s.table.parts.name name) (Some n) (place_from (n + 1) name ss) ≡ Some (n + suc i) → StandFor (s ∷ ss) (t ∷ ts)
         → t'.name ≡ name → StandsFor new t' → (place_from (n + 1) name ss ≡ Some (n + 1 + i) → StandFor ss ts → t'.name ≡ name → StandsFor new t' → StandFor (set ss i new) (replaced t' ts))
         → StandFor (s ∷ set ss i new) (replaced t' (t ∷ ts))
     further name s ss t ts i n new t' true at h stand is stands more =
         let same : Some n ≡ Some (n + suc i) = sym (rw at refl) ∙ h in
         let num : n ≡ n + suc i = cc in absurd (omega arith)
     further name s ss t ts i n new t' false at h stand is stands more =
-        let own : same_name t.name t'.name ≡ false = ap (λ (m : Name). same_name m t'.name) (sym stand.0.name_is) ∙ ap (same_name s.table.name) is ∙ at in
+        let own : same_name t.name t'.name ≡ false = ap (λ (m : Name). same_name m t'.name) (sym stand.0.name_is) ∙ ap (same_name s.table.parts.name) is ∙ at in
         let rest : place_from (n + 1) name ss ≡ Some (n + suc i) = sym (rw at refl) ∙ h in
         let num : n + suc i ≡ n + 1 + i = omega arith in
         rw own (stand.0, more (rest ∙ ap Some num) stand.1 is stands)
@@ -116,7 +117,7 @@ replaced-stand name (s ∷ ss) (t ∷ ts) (suc i) n new t' h stand is stands = f
 -- how many tables stand before, where places are counted from n on
 pub before-suc : (n : ℕ) (name : Name) (ss : List Stored) → before_from (n + 1) name ss ≡ before_from n name ss + 1
 before-suc n name [] = refl
-before-suc n name (s ∷ ss) = either n name ss (is_gt (slice_cmp nat_cmp name s.table.name)) (before-suc (n + 1) name ss)
+before-suc n name (s ∷ ss) = either n name ss (is_gt (slice_cmp nat_cmp name s.table.parts.name)) (before-suc (n + 1) name ss)
   where
     either : (n : ℕ) (name : Name) (ss : List Stored) (b : Bool) → before_from (n + 1 + 1) name ss ≡ before_from (n + 1) name ss + 1 → cond b (before_from (n + 1 + 1) name ss) (n + 1) ≡ cond b (before_from (n + 1) name ss) n + 1
     either n name ss true h = h
@@ -127,9 +128,9 @@ pub placed-stand : (ss : List Stored) (db : Database) (new : Stored) (t' : Table
 placed-stand [] [] new t' stand stands = (stands, tt)
 placed-stand [] (t ∷ ts) new t' stand stands = absurd stand
 placed-stand (s ∷ ss) [] new t' stand stands = absurd stand
-placed-stand (s ∷ ss) (t ∷ ts) new t' stand stands = either s ss t ts new t' (is_gt (slice_cmp nat_cmp t'.name s.table.name)) refl stand stands (placed-stand ss ts new t' stand.1 stands)
+placed-stand (s ∷ ss) (t ∷ ts) new t' stand stands = either s ss t ts new t' (is_gt (slice_cmp nat_cmp t'.name s.table.parts.name)) refl stand stands (placed-stand ss ts new t' stand.1 stands)
   where
-    either : (s : Stored) (ss : List Stored) (t : Table) (ts : Database) (new : Stored) (t' : Table) (b : Bool) → is_gt (slice_cmp nat_cmp t'.name s.table.name) ≡ b → StandFor (s ∷ ss) (t ∷ ts) → StandsFor new t'
+    either : (s : Stored) (ss : List Stored) (t : Table) (ts : Database) (new : Stored) (t' : Table) (b : Bool) → is_gt (slice_cmp nat_cmp t'.name s.table.parts.name) ≡ b → StandFor (s ∷ ss) (t ∷ ts) → StandsFor new t'
         → StandFor (insert ss (before_from 0 t'.name ss) new) (placed t' ts) → StandFor (insert (s ∷ ss) (before_from 0 t'.name (s ∷ ss)) new) (placed t' (t ∷ ts))
     either s ss t ts new t' true at stand stands further =
         let own : is_gt (slice_cmp nat_cmp t'.name t.name) ≡ true = ap (λ (m : Name). is_gt (slice_cmp nat_cmp t'.name m)) (sym stand.0.name_is) ∙ at in
@@ -152,8 +153,8 @@ finds-named name [] [] stand = tt
 finds-named name [] (t ∷ ts) stand = absurd stand
 finds-named name (s ∷ ss) [] stand = absurd stand
 finds-named name (s ∷ ss) (t ∷ ts) stand =
-    let own : same_name t.name name ≡ same_name s.table.name name = ap (λ (m : Name). same_name m name) (sym stand.0.name_is) in
-    either name s ss t ts (same_name s.table.name name) (same_name t.name name) own stand.0 (finds-named name ss ts stand.1)
+    let own : same_name t.name name ≡ same_name s.table.parts.name name = ap (λ (m : Name). same_name m name) (sym stand.0.name_is) in
+    either name s ss t ts (same_name s.table.parts.name name) (same_name t.name name) own stand.0 (finds-named name ss ts stand.1)
   where
     either : (name : Name) (s : Stored) (ss : List Stored) (t : Table) (ts : Database) (b d : Bool) → d ≡ b → StandsFor s t → Finds (named name ss) (table_of name ts) → Finds (cond b (Some s) (named name ss)) (cond d (Some t) (table_of name ts))
     either name s ss t ts true true is here further = here
@@ -169,7 +170,7 @@ length-bare (s ∷ ss) = ap suc (length-bare ss)
 
 pub table_of-bare : (name : Name) (ss : List Stored) → table_of name (bare ss) ≡ option_map bare_table (named name ss)
 table_of-bare name [] = refl
-table_of-bare name (s ∷ ss) = either (same_name s.table.name name) (table_of-bare name ss)
+table_of-bare name (s ∷ ss) = either (same_name s.table.parts.name name) (table_of-bare name ss)
   where
     either : (b : Bool) → table_of name (bare ss) ≡ option_map bare_table (named name ss) → cond b (Some (bare_table s)) (table_of name (bare ss)) ≡ option_map bare_table (cond b (Some s) (named name ss))
     either true h = refl
@@ -200,8 +201,8 @@ option_or-none : {X : Type 0} (o : Option X) → o ≡ option_or o None
 option_or-none None = refl
 option_or-none (Some x) = refl
 
-pub insert_there : (ss : List Stored) (s : Stored) (name : Name) (rows : List (List Value)) → named name ss ≡ Some s → first_bad_row 1 s.table.schema.columns rows ≡ first_refusal (insert_checks name (table_of name (bare ss)) rows)
-insert_there ss s name rows is = rw (bare_is name ss (Some s) is) (option_or-none (first_bad_row 1 s.table.schema.columns rows))
+pub insert_there : (ss : List Stored) (s : Stored) (name : Name) (rows : List (List Value)) → named name ss ≡ Some s → first_bad_row 1 s.columns rows ≡ first_refusal (insert_checks name (table_of name (bare ss)) rows)
+insert_there ss s name rows is = rw (bare_is name ss (Some s) is) (option_or-none (first_bad_row 1 s.columns rows))
 
 -- WHAT THE TESTS FIND OVER THE TABLES THAT ARE STOOD FOR is what they find over the bare ones
 
@@ -221,8 +222,8 @@ create_bare : (name : Name) (ss : List Stored) (db : Database) → StandFor ss d
 create_bare name ss db stand =
     let there : is_some (table_of name db) ≡ is_some (table_of name (bare ss)) = some_bare (named name ss) (table_of name db) (finds-named name ss db stand) ∙ ap is_some (sym (table_of-bare name ss)) in
     let many : length db ≡ length (bare ss) = sym (length-stand ss db stand) ∙ sym (length-bare ss) in
-    ap (λ (b : Bool). option_or (found_if b (refusals.TableExists name)) (option_or (found_if (nat_le most_tables (length db)) refusals.CatalogFull) None)) there
-    ∙ ap (λ (n : ℕ). option_or (found_if (is_some (table_of name (bare ss))) (refusals.TableExists name)) (option_or (found_if (nat_le most_tables n) refusals.CatalogFull) None)) many
+    ap (λ (b : Bool). option_or (found_if b (refusals.TableExists name)) (option_or (found_if (nat_le MOST_TABLES (length db)) refusals.CatalogFull) None)) there
+    ∙ ap (λ (n : ℕ). option_or (found_if (is_some (table_of name (bare ss))) (refusals.TableExists name)) (option_or (found_if (nat_le MOST_TABLES n) refusals.CatalogFull) None)) many
 
 insert_bare : (name : Name) (rows : List (List Value)) (ss : List Stored) (db : Database) → StandFor ss db → first_refusal (insert_checks name (table_of name db) rows) ≡ first_refusal (insert_checks name (table_of name (bare ss)) rows)
 insert_bare name rows ss db stand =
@@ -243,7 +244,7 @@ checks_bare (writes.Update table changes cond) ss db stand = refl
 
 pub none_named : (n : ℕ) (name : Name) (ss : List Stored) → place_from n name ss ≡ None → named name ss ≡ None
 none_named n name [] h = refl
-none_named n name (s ∷ ss) h = either (same_name s.table.name name) h (none_named (n + 1) name ss)
+none_named n name (s ∷ ss) h = either (same_name s.table.parts.name name) h (none_named (n + 1) name ss)
   where
     either : (b : Bool) → cond b (Some n) (place_from (n + 1) name ss) ≡ None → (place_from (n + 1) name ss ≡ None → named name ss ≡ None) → cond b (Some s) (named name ss) ≡ None
     either true h further = cc
@@ -251,12 +252,12 @@ none_named n name (s ∷ ss) h = either (same_name s.table.name name) h (none_na
 
 pub named_at : (name : Name) (ss : List Stored) (i n : ℕ) → place_from n name ss ≡ Some (n + i) → named name ss ≡ slice_get ss i
 named_at name [] i n h = cc
-named_at name (s ∷ ss) zero n h = either (same_name s.table.name name) h
+named_at name (s ∷ ss) zero n h = either (same_name s.table.parts.name name) h
   where
     either : (b : Bool) → cond b (Some n) (place_from (n + 1) name ss) ≡ Some (n + 0) → cond b (Some s) (named name ss) ≡ Some s
     either true h = refl
     either false h = let past : n + 1 ≤ n + 0 = past_place (n + 1) (n + 0) name ss h in absurd (omega arith)
-named_at name (s ∷ ss) (suc i) n h = either (same_name s.table.name name) h (named_at name ss i (n + 1))
+named_at name (s ∷ ss) (suc i) n h = either (same_name s.table.parts.name name) h (named_at name ss i (n + 1))
   where
     either : (b : Bool) → cond b (Some n) (place_from (n + 1) name ss) ≡ Some (n + suc i) → (place_from (n + 1) name ss ≡ Some (n + 1 + i) → named name ss ≡ slice_get ss i) → cond b (Some s) (named name ss) ≡ slice_get ss i
     either true h further = let num : n ≡ n + suc i = cc in absurd (omega arith)

@@ -1,12 +1,12 @@
 -- What a write and a query of one stored table do to all of them.
-use Rattle.std.proofs.Common.{◌≡◌, ℕ, zero, suc, ◌+◌, ◌≤◌, ◌<◌, Bool, true, false, List, [], ◌∷◌, ◌++◌, length, refl, sym, ◌∙◌, ap, subst, arith, Option, Some, None, cond, map, get_or, filter, Result, Ok, Err, ◌⊎◌, inl, inr}
-use Rattle.std.specs.Prelude.{IfOk, IfErr, OnOk, OnErr, nat_lt, slice_index, unwrap_or, is_none}
+use Rattle.std.proofs.Common.{◌≡◌, ℕ, zero, suc, ◌+◌, ◌≤◌, ◌<◌, Bool, true, false, List, [], ◌∷◌, ◌++◌, length, refl, sym, ◌∙◌, ap, subst, arith, Option, Some, None, cond, map, replicate, get_or, Result, Ok, Err, ◌⊎◌, inl, inr}
+use Rattle.std.specs.Prelude.{IfOk, IfErr, OnOk, OnErr, count_by, nat_lt, slice_index, unwrap_or, is_none}
 use Rattle.std.specs.List.{slice_get, position, position_or_len, AllByRecursion}
 use Rattle.std.specs.Option.{option_or}
 use Rattle.std.proofs.Math.ListN.{set}
 use Rattle.std.proofs.lemmas.Option.{get_or_from_slice_get}
 use Rattle.std.proofs.lemmas.Bool.Decides.{nat_tests}
-use Rattle.std.proofs.lemmas.List.{same_lists, get_or-map, get_or_default, length-map}
+use Rattle.std.proofs.lemmas.List.{length-map}
 use Rattle.iq_base.specs.Shorts.{Name}
 use Rattle.iq_base.specs.declared.values.Value.{Value}
 use Rattle.iq_base.specs.declared.schemas.Column.{Column}
@@ -18,15 +18,31 @@ use Rattle.iq_ast.specs.declared.statements.Item.{Item}
 use Rattle.iq_ast.specs.declared.statements.Item.TheVariants as items
 use Rattle.iq_ast.specs.declared.statements.Select.{Select}
 use Rattle.iq_ast.specs.declared.statements.Statement.TheVariants as statements
+use Rattle.iq_base.specs.declared.descriptors.ColumnPart.{ColumnPart}
+use Rattle.iq_base.specs.declared.descriptors.IndexPart.{IndexPart}
+use Rattle.iq_pages.specs.Pages.{Pages, Seen}
+use Rattle.iq_bitmap.specs.Bits.{rows_from}
+use Rattle.iq_cells.specs.declared.fields.BadField.{BadField}
+use Rattle.iq_cells.specs.Fields.{first_bad_field}
+use Rattle.iq_cells.specs.Growing.{kinds_of}
+use Rattle.iq_base.specs.declared.values.Kind.{Kind}
+use Rattle.iq_cells.specs.Packed.{value_at as value_in}
+use Rattle.iq_cells.specs.Tables.{row_at}
 use Rattle.iq_table.specs.declared.table.Table.{Table as PagedTable}
-use Rattle.iq_table.specs.Layout.{row_at, column_of, value_at as value_in}
-use Rattle.iq_table.specs.Table.{TableStands, Gains, GivesColumns}
-use Rattle.iq_table.proofs.AppendLemmas.{value_of_column}
-use Rattle.iq_model.specs.Tables.{Slot, Table, Database, content, live_slot, with_rows, same_name, table_of, replaced}
-use Rattle.iq_model.specs.Statements.{first_refusal, found_if, IsColumnItem, select_checks, room_check, inserted, first_bad_row, first_no_column, column_place, out_of, value_or_null, value_at, projected, rows_of, rows_at, answer}
+use Rattle.iq_table.specs.declared.faults.TableFault.{TableFault}
+use Rattle.iq_table.specs.declared.faults.TableFault.TheVariants as faults
+use Rattle.iq_table.specs.Places.{as_column, new_part, part_at, part_kinds}
+use Rattle.iq_table.specs.Limits.{as_columns, has_low_fast, limit_of}
+use Rattle.iq_table.specs.Table.{TableStands, StandsForMore, GivesAlive, GivesRows, values_at}
+use Rattle.iq_table.specs.Calls.{new_parts, IsUnused, HasGrown, IsPartGrown, HasAppendCause}
+use Rattle.iq_model.specs.Outs.{out_of, outs_of}
+use Rattle.iq_model.specs.Tables.{Slot, Table, Database, content, with_rows, same_name, table_of, replaced}
+use Rattle.iq_model.specs.Statements.{first_refusal, found_if, IsColumnItem, select_checks, room_check, inserted, first_bad_row, first_no_column, column_place, refused_at, bad_row, value_or_null, value_at, projected, rows_of, rows_at, answer}
 use Rattle.iq_plex.specs.declared.stored.Stored.{Stored}
 use Rattle.iq_plex.specs.Plex.{Grants, Refuses, IsTableCause, IsGranted}
-use Rattle.iq_plex.specs.Stored.{told_by, StandsFor, StandFor, OfTables, Leads, StayAs, OfTable, TableLeads, StaysAs, AreFit, named, place_from, place_in, answered_row, AreAnswered}
+use Rattle.iq_plex.specs.Stored.{told_by, StandsFor, StandFor, OfTables, Leads, StayAs, OfTable, TableLeads, StaysAs, AreFit, named, place_from, place_in, slot_rows, slot_bits, refusal_of}
+use Rattle.iq_plex.specs.Laid.{IsLaid}
+use Rattle.iq_plex.proofs.Slots.{rows_more, bits_more, content_by_place, content_counted}
 use Rattle.iq_plex.proofs.Commits.{table_of-named}
 use Rattle.iq_plex.proofs.LookUps.{found, none_found, replaced-stand, insert_missing, insert_there, none_named, named_at}
 
@@ -48,63 +64,113 @@ on_err P Q (Err e) f p = f p
 
 -- ROWS PUT INTO A TABLE
 
-content-live : (xs : List Slot) (rows : List (List Value)) → map (λ (s : Slot). s.row) (filter (λ (s : Slot). s.alive) (xs ++ map live_slot rows)) ≡ map (λ (s : Slot). s.row) (filter (λ (s : Slot). s.alive) xs) ++ rows
-content-live [] [] = refl
-content-live [] (row ∷ rows) = ap (λ rs. row ∷ rs) (content-live [] rows)
-content-live (x ∷ xs) rows = either x xs rows x.alive (content-live xs rows)
-  where
-    either : (x : Slot) (xs : List Slot) (rows : List (List Value)) (b : Bool) → map (λ (s : Slot). s.row) (filter (λ (s : Slot). s.alive) (xs ++ map live_slot rows)) ≡ map (λ (s : Slot). s.row) (filter (λ (s : Slot). s.alive) xs) ++ rows
-        → map (λ (s : Slot). s.row) (cond b (x ∷ filter (λ (s : Slot). s.alive) (xs ++ map live_slot rows)) (filter (λ (s : Slot). s.alive) (xs ++ map live_slot rows)))
-        ≡ map (λ (s : Slot). s.row) (cond b (x ∷ filter (λ (s : Slot). s.alive) xs) (filter (λ (s : Slot). s.alive) xs)) ++ rows
-    either x xs rows true h = ap (λ rs. x.row ∷ rs) h
-    either x xs rows false h = h
-
-content-with_rows : (t : Table) (rows : List (List Value)) → content (with_rows t rows) ≡ content t ++ rows
-content-with_rows t rows = content-live t.slots rows
-
-map-live : (xs rows : List (List Value)) → map live_slot xs ++ map live_slot rows ≡ map live_slot (xs ++ rows)
-map-live [] rows = refl
-map-live (x ∷ xs) rows = ap (λ ss. live_slot x ∷ ss) (map-live xs rows)
-
-length-live : (rows : List (List Value)) → length (map live_slot rows) ≡ length rows
-length-live [] = refl
-length-live (row ∷ rows) = ap suc (length-live rows)
-
 -- a stored table stands for its plain one with rows put at its end
-pub append_stands : (old new : Stored) (t : Table) (rows : List (List Value)) → new.table ≡ record old.table { slots = old.table.slots + length rows } → Gains 0 rows (told_by old.pages) old.table (told_by new.pages) new.table
-    → StandsFor old t → StandsFor new (with_rows t rows)
-append_stands old new t rows same gains stands = record {
-  name_is = ap (λ (x : PagedTable). x.name) same ∙ stands.name_is;
-  columns_are = ap (λ (x : PagedTable). x.schema.columns) same ∙ stands.columns_are;
-  all_alive = ap (λ (ss : List Slot). ss ++ map live_slot rows) stands.all_alive ∙ map-live (content t) rows ∙ ap (map live_slot) (sym (content-with_rows t rows));
-  holds = subst (TableStands (told_by new.pages) 0 new.table) (sym (content-with_rows t rows)) (gains (content t) stands.holds);
+pub append_stands : (old new : Stored) (t : Table) (rows put : List (List Value)) → put ≡ rows → old.table.place ≡ 0 → new.columns ≡ old.columns → HasGrown old.table new.table (length put)
+    → StandsForMore old.table new.table put (told_by old.pages) (told_by new.pages) → StandsFor old t → StandsFor new (with_rows t rows)
+append_stands old new t rows put are first same grown gains stands =
+    let place : new.table.place ≡ 0 = ap (λ (x : PagedTable). x.place) grown.rest ∙ first in
+    let held : TableStands (told_by old.pages) old.table.place old.table.parts (slot_rows t) (slot_bits t) =
+    subst (λ (p : ℕ). TableStands (told_by old.pages) p old.table.parts (slot_rows t) (slot_bits t)) (sym first) stands.holds in
+    let more : TableStands (told_by new.pages) new.table.place new.table.parts (slot_rows t ++ rows) (slot_bits t ++ replicate (length rows) true) =
+    subst (λ (rs : List (List Value)). TableStands (told_by new.pages) new.table.place new.table.parts (slot_rows t ++ rs) (slot_bits t ++ replicate (length rs) true)) are (gains (slot_rows t) (slot_bits t) held) in
+    record {
+      name_is = ap (λ (x : PagedTable). x.parts.name) grown.rest ∙ stands.name_is;
+      columns_are = same ∙ stands.columns_are;
+      holds =
+          rw (rows_more t rows, bits_more t rows)
+          (subst (λ (p : ℕ). TableStands (told_by new.pages) p new.table.parts (slot_rows t ++ rows) (slot_bits t ++ replicate (length rows) true)) place more);
+    }
+
+-- a table that has grown is kept as before
+pub grown_laid : (columns : List Column) (old new : PagedTable) (more : ℕ) → IsLaid columns old → HasGrown old new more → IsLaid columns new
+grown_laid columns old new more laid grown = record {
+  first = ap (λ (x : PagedTable). x.place) grown.rest ∙ laid.first;
+  plain = ap (λ (x : PagedTable). x.parts.indexes) grown.rest ∙ laid.plain;
+  few = omega (arith, grown.long, laid.few);
+  columns_are = columns_grown old.parts.columns new.parts.columns more grown.long grown.columns ∙ laid.columns_are;
 }
+  where
+    columns_grown : (olds news : List ColumnPart) (more : ℕ) → length news ≡ length olds → ((c : ℕ) → c < length olds → IsPartGrown more (part_at c olds) (part_at c news)) → as_columns news ≡ as_columns olds
+    columns_grown [] [] more long each = refl
+    columns_grown [] (new ∷ news) more long each = absurd (omega (arith, long))
+    columns_grown (old ∷ olds) [] more long each = absurd (omega (arith, long))
+    columns_grown (old ∷ olds) (new ∷ news) more long each =
+        ap (λ (column : Column). column ∷ as_columns news) (ap as_column (each 0 (omega arith)).rest)
+        ∙ ap (λ (columns : List Column). as_column old ∷ columns) (columns_grown olds news more (omega (arith, long)) (λ c h. each (suc c) (omega (arith, h))))
+
+-- what columns may hold, by the descriptor
+pub kinds_laid : (columns : List Column) (table : PagedTable) → IsLaid columns table → kinds_of columns ≡ part_kinds table.parts.columns
+kinds_laid columns table laid = ap kinds_of (sym laid.columns_are) ∙ kinds_as table.parts.columns
+  where
+    kinds_as : (parts : List ColumnPart) → kinds_of (as_columns parts) ≡ part_kinds parts
+    kinds_as [] = refl
+    kinds_as (part ∷ parts) = ap (λ (kinds : List Kind). part.kind ∷ kinds) (kinds_as parts)
+
+-- A TABLE WITHOUT ROWS
+
+part_unused : (columns : List Column) (c : ℕ) → ((part_at c (map new_part columns)).distinct ≡ 0) × ((part_at c (map new_part columns)).form ≡ 1)
+part_unused [] c = (refl, refl)
+part_unused (column ∷ columns) zero = (refl, refl)
+part_unused (column ∷ columns) (suc c) = part_unused columns c
+
+pub new_unused : (name : List ℕ) (columns : List Column) → IsUnused (new_parts name columns)
+new_unused name columns = record { slots = refl; distinct = λ c h. (part_unused columns c).0; forms = λ c h. (part_unused columns c).1 }
+
+columns_new : (columns : List Column) → as_columns (map new_part columns) ≡ columns
+columns_new [] = refl
+columns_new (column ∷ columns) = ap (λ (cs : List Column). column ∷ cs) (columns_new columns)
+
+pub new_laid : (name : List ℕ) (columns : List Column) → length columns ≤ 32 → IsLaid columns (record { place = 0; parts = new_parts name columns })
+new_laid name columns h = record { first = refl; plain = refl; few = omega (arith, h, length-map columns new_part); columns_are = columns_new columns }
+
+-- how many rows a stored table may have
+pub limit_laid : (columns : List Column) (table : PagedTable) → IsLaid columns table → limit_of table.parts ≡ row_limit columns false
+limit_laid columns table laid =
+    ap (λ (indexes : List IndexPart). row_limit (as_columns table.parts.columns) (has_low_fast indexes)) laid.plain
+    ∙ ap (λ (cs : List Column). row_limit cs false) laid.columns_are
 
 -- a stored table as long as its plain one
-slots_are : (old : Stored) (t : Table) → StandsFor old t → length t.slots ≡ old.table.slots
-slots_are old t stands = ap length stands.all_alive ∙ length-live (content t) ∙ stands.holds.slots_are
+slots_are : (old : Stored) (t : Table) → StandsFor old t → length t.slots ≡ old.table.parts.slots
+slots_are old t stands = sym (length-map t.slots (λ (s : Slot). s.row)) ∙ stands.holds.slots
 
 -- the test of the room finds nothing where there is room
-pub room_granted : (old : Stored) (t : Table) (count : ℕ) → old.table.slots + count ≤ row_limit old.table.schema.columns → StandsFor old t → Grants (room_check (Some t) count)
-room_granted old t count room stands =
+pub room_granted : (old : Stored) (t : Table) (count : ℕ) → IsLaid old.columns old.table → old.table.parts.slots + count ≤ limit_of old.table.parts → StandsFor old t → Grants (room_check (Some t) count)
+room_granted old t count laid room stands =
     let size = slots_are old t stands in
-    let limit : old.table.slots + count ≤ row_limit t.columns = subst (λ (cs : List Column). old.table.slots + count ≤ row_limit cs) stands.columns_are room in
-    let off : nat_lt (row_limit t.columns) (length t.slots + count) ≡ false = not_past (row_limit t.columns) (length t.slots + count) (omega arith) in
+    let limit : limit_of old.table.parts ≡ row_limit t.columns false = limit_laid old.columns old.table laid ∙ ap (λ (cs : List Column). row_limit cs false) stands.columns_are in
+    let off : nat_lt (row_limit t.columns false) (length t.slots + count) ≡ false = not_past (row_limit t.columns false) (length t.slots + count) (omega (arith, limit)) in
     rw off refl
   where
     not_past : (a b : ℕ) → b ≤ a → nat_lt a b ≡ false
     not_past a b h = grind (arith, nat_tests)
 
 -- and the table's limit where there is none
-pub room_refused : (old : Stored) (t : Table) (count : ℕ) → row_limit old.table.schema.columns < old.table.slots + count → StandsFor old t → Refuses (room_check (Some t) count) (refusals.TableFull (row_limit old.table.schema.columns))
-room_refused old t count full stands =
+pub room_refused : (old : Stored) (t : Table) (count limit : ℕ) → IsLaid old.columns old.table → limit ≡ limit_of old.table.parts → limit < old.table.parts.slots + count → StandsFor old t → Refuses (room_check (Some t) count) (refusals.TableFull limit)
+room_refused old t count limit laid is full stands =
     let size = slots_are old t stands in
-    let same : row_limit old.table.schema.columns ≡ row_limit t.columns = ap row_limit stands.columns_are in
-    let on : nat_lt (row_limit t.columns) (length t.slots + count) ≡ true = past (row_limit t.columns) (length t.slots + count) (omega arith) in
+    let same : limit ≡ row_limit t.columns false = is ∙ limit_laid old.columns old.table laid ∙ ap (λ (cs : List Column). row_limit cs false) stands.columns_are in
+    let on : nat_lt (row_limit t.columns false) (length t.slots + count) ≡ true = past (row_limit t.columns false) (length t.slots + count) (omega (arith, same)) in
     inr (rw (on, same) refl)
   where
     past : (a b : ℕ) → a < b → nat_lt a b ≡ true
     past a b h = grind (arith, nat_tests)
+
+-- why rows aren't put into it, as the line is refused
+pub append_refused : (old : Stored) (t : Table) (rows put : List (List Value)) (before after : Seen) (fault : TableFault) → put ≡ rows → IsLaid old.columns old.table → HasAppendCause old.table (length put) before after fault → StandsFor old t
+    → Refuses (room_check (Some t) (length rows)) (refusal_of fault)
+append_refused old t rows put before after (faults.Failed x y) are laid cause stands = inl refl
+append_refused old t rows put before after (faults.BadPage object page) are laid cause stands = inl refl
+append_refused old t rows put before after faults.NoMemory are laid cause stands = inl refl
+append_refused old t rows put before after (faults.TableFull limit) are laid cause stands =
+    room_refused old t (length rows) limit laid cause.0 (omega (arith, cause.1, ap (λ (rs : List (List Value)). length rs) are)) stands
+
+-- pages that are the same stand for the same
+pub moved_stands : (old new : Stored) (t : Table) → new.columns ≡ old.columns → new.table ≡ old.table → ((object : ℕ) → told_by new.pages object ≡ told_by old.pages object) → StandsFor old t → StandsFor new t
+moved_stands old new t columns table pages stands = record {
+  name_is = ap (λ (x : PagedTable). x.parts.name) table ∙ stands.name_is;
+  columns_are = columns ∙ stands.columns_are;
+  holds = rw table (subst (λ (told : ℕ → Option Pages). TableStands told 0 old.table.parts (slot_rows t) (slot_bits t)) (sym (λ i object. pages object i)) stands.holds);
+}
 
 -- PLACES AMONG THE STORED TABLES
 
@@ -147,13 +213,13 @@ pub set_stays : (ss : List Stored) (i : ℕ) (at new : Stored) → at ≡ get_or
 set_stays ss i at new is keeps = λ db stand. set_stand ss db i new stand (λ s t got st. keeps t (there ss i at t (λ (x : Stored). StandsFor x t) s got is st))
 
 -- rows that fit the table of a name fit the one at its place
-pub fit_at : (name : Name) (ss : List Stored) (i : ℕ) (at : Stored) (rows : List (List Value)) → place_from 0 name ss ≡ Some i → at ≡ get_or ss i at → AreFit name rows ss → first_bad_row 1 at.table.schema.columns rows ≡ None
+pub fit_at : (name : Name) (ss : List Stored) (i : ℕ) (at : Stored) (rows : List (List Value)) → place_from 0 name ss ≡ Some i → at ≡ get_or ss i at → AreFit name rows ss → first_bad_row 1 at.columns rows ≡ None
 fit_at name ss i at rows place is fit = either (slice_get ss i) refl (named_at name ss i 0 (place ∙ ap Some (omega arith)))
   where
-    either : (o : Option Stored) → slice_get ss i ≡ o → named name ss ≡ slice_get ss i → first_bad_row 1 at.table.schema.columns rows ≡ None
+    either : (o : Option Stored) → slice_get ss i ≡ o → named name ss ≡ slice_get ss i → first_bad_row 1 at.columns rows ≡ None
     either None got named_is = let clash : Some (refusals.NoTable name) ≡ None = insert_missing ss name rows (named_is ∙ got) ∙ fit in cc
     either (Some s) got named_is =
-        ap (λ (x : Stored). first_bad_row 1 x.table.schema.columns rows) (sym (read_there ss i s at got is))
+        ap (λ (x : Stored). first_bad_row 1 x.columns rows) (sym (read_there ss i s at got is))
         ∙ insert_there ss s name rows (named_is ∙ got) ∙ fit
 
 -- where rows fit, there is a table of the name
@@ -167,7 +233,7 @@ checks_nil : (o : Option Refusal) → option_or o None ≡ o
 checks_nil None = refl
 checks_nil (Some r) = refl
 
-pub select_granted : (select : Select) (ss : List Stored) (i : ℕ) (at : Stored) → place_from 0 select.table ss ≡ Some i → at ≡ get_or ss i at → first_no_column at.table.schema.columns select.items ≡ None
+pub select_granted : (select : Select) (ss : List Stored) (i : ℕ) (at : Stored) → place_from 0 select.table ss ≡ Some i → at ≡ get_or ss i at → first_no_column at.columns select.items ≡ None
     → OfTables ss (IsGranted (statements.Select select))
 select_granted select ss i at place is none =
     of_table select.table ss i at (λ (o : Option Table). Grants (select_checks select.table o select.items ++ [])) place is
@@ -178,7 +244,7 @@ pub select_rows : (select : Select) (ss : List Stored) (i : ℕ) (at : Stored) (
 select_rows select ss i at rows place is reads = of_table select.table ss i at (λ (o : Option Table). rows ≡ rows_at o select.items) place is reads
 
 pub select_err : (select : Select) (ss : List Stored) (i : ℕ) (at : Stored) (cause : Refusal) → place_from 0 select.table ss ≡ Some i → at ≡ get_or ss i at
-    → (cause ≡ refusals.NoMemory) ⊎ (first_no_column at.table.schema.columns select.items ≡ Some cause) → OfTables ss (λ db. IsTableCause (statements.Select select) db cause)
+    → (cause ≡ refusals.NoMemory) ⊎ (first_no_column at.columns select.items ≡ Some cause) → OfTables ss (λ db. IsTableCause (statements.Select select) db cause)
 select_err select ss i at cause place is (inl memory) = λ db stand. inl memory
 select_err select ss i at cause place is (inr found_it) =
     of_table select.table ss i at (λ (o : Option Table). Refuses (select_checks select.table o select.items ++ []) cause) place is
@@ -223,61 +289,53 @@ places_within columns (items.Sum name ∷ members) plain h i lt = absurd plain.0
 places_within columns (items.Min name ∷ members) plain h i lt = absurd plain.0
 places_within columns (items.Max name ∷ members) plain h i lt = absurd plain.0
 
--- the values that a row has in some columns, in their order
-abbrev pub chosen : List ℕ → List Value → List Value
-chosen places row = map (λ (c : ℕ). value_in c row) places
-
 out_at : (row : List Value) (p : ℕ) → out_of (value_in p row) ≡ value_or_null (slice_get row p)
 out_at [] p = refl
 out_at (v ∷ row) zero = refl
 out_at (v ∷ row) (suc p) = out_at row p
 
-one_row : (columns : List Column) (members : List Item) (row : List Value) → AllByRecursion IsColumnItem members → first_no_column columns members ≡ None → map out_of (chosen (map (place_in columns) members) row) ≡ projected columns members row
+one_row : (columns : List Column) (members : List Item) (row : List Value) → AllByRecursion IsColumnItem members → first_no_column columns members ≡ None → outs_of (values_at (map (place_in columns) members) row) ≡ projected columns members row
 one_row columns [] row plain h = refl
 one_row columns (items.Plain name ∷ members) row plain h =
     let p = placed_name columns name (column_place columns name) refl (none_left (found_if (is_none (column_place columns name)) (refusals.NoColumn name)) (first_no_column columns members) h) in
     let rest = one_row columns members row plain.1 (none_right (found_if (is_none (column_place columns name)) (refusals.NoColumn name)) (first_no_column columns members) h) in
     let here : out_of (value_in (unwrap_or (column_place columns name) 0) row) ≡ value_at (column_place columns name) row = rw p.1 (out_at row p.0) in
-    ap (λ (o : Out). o ∷ map out_of (chosen (map (place_in columns) members) row)) here ∙ ap (λ (os : List Out). value_at (column_place columns name) row ∷ os) rest
+    ap (λ (o : Out). o ∷ outs_of (values_at (map (place_in columns) members) row)) here ∙ ap (λ (os : List Out). value_at (column_place columns name) row ∷ os) rest
 one_row columns (items.CountAll ∷ members) row plain h = absurd plain.0
 one_row columns (items.Count name ∷ members) row plain h = absurd plain.0
 one_row columns (items.Sum name ∷ members) row plain h = absurd plain.0
 one_row columns (items.Min name ∷ members) row plain h = absurd plain.0
 one_row columns (items.Max name ∷ members) row plain h = absurd plain.0
 
-all_rows : (columns : List Column) (members : List Item) (rows : List (List Value)) → AllByRecursion IsColumnItem members → first_no_column columns members ≡ None → map (map out_of) (map (chosen (map (place_in columns) members)) rows) ≡ map (projected columns members) rows
-all_rows columns members [] plain h = refl
-all_rows columns members (row ∷ rows) plain h =
-    ap (λ (r : List Out). r ∷ map (map out_of) (map (chosen (map (place_in columns) members)) rows)) (one_row columns members row plain h)
-    ∙ ap (λ (rs : List (List Out)). projected columns members row ∷ rs) (all_rows columns members rows plain h)
+-- the values of some columns, as they are answered
+pub answered_rows : (columns : List Column) (members : List Item) (places : List ℕ) (rows : List (List Value)) → AllByRecursion IsColumnItem members → first_no_column columns members ≡ None → places ≡ map (place_in columns) members
+    → map outs_of (map (values_at places) rows) ≡ map (projected columns members) rows
+answered_rows columns members places [] plain h at = refl
+answered_rows columns members places (row ∷ rows) plain h at =
+    ap (λ (r : List Out). r ∷ map outs_of (map (values_at places) rows)) (ap (λ (ps : List ℕ). outs_of (values_at ps row)) at ∙ one_row columns members row plain h)
+    ∙ ap (λ (rs : List (List Out)). projected columns members row ∷ rs) (answered_rows columns members places rows plain h at)
 
--- a row of what was read of the columns is the row that has those values
-row_answered : (k : ℕ) (rows : List (List Value)) (places : List ℕ) → k < length rows
-    → answered_row k (map (λ (c : ℕ). column_of c rows) places) ≡ map out_of (chosen places (row_at k rows))
-row_answered k rows [] h = refl
-row_answered k rows (c ∷ cs) h =
-    ap (λ (v : Value). out_of v ∷ answered_row k (map (λ (d : ℕ). column_of d rows) cs)) (value_of_column c k rows h)
-    ∙ ap (λ (os : List Out). out_of (value_in c (row_at k rows)) ∷ os) (row_answered k rows cs h)
+-- what was read of a table's rows that are there, of pages that are the same
+pub rows_read : (s : Stored) (t : Table) (places : List ℕ) (told : ℕ → Option Pages) (set : List Bool) (got : List (List Value)) → s.table.place ≡ 0 → ((object : ℕ) → told object ≡ told_by s.pages object)
+    → GivesAlive s.table (told_by s.pages) set → GivesRows s.table told set places got → StandsFor s t → got ≡ map (values_at places) (content t)
+rows_read s t places told set got first same alive rows stands =
+    let held : TableStands (told_by s.pages) s.table.place s.table.parts (slot_rows t) (slot_bits t) =
+    subst (λ (p : ℕ). TableStands (told_by s.pages) p s.table.parts (slot_rows t) (slot_bits t)) (sym first) stands.holds in
+    let there : TableStands told s.table.place s.table.parts (slot_rows t) (slot_bits t) =
+    subst (λ (pages : ℕ → Option Pages). TableStands pages s.table.place s.table.parts (slot_rows t) (slot_bits t)) (λ i object. sym (same object) i) held in
+    rows (slot_rows t) (slot_bits t) there
+    ∙ ap (λ (bits : List Bool). map (λ (r : ℕ). values_at places (row_at r (slot_rows t))) (rows_from 0 bits)) (alive (slot_rows t) (slot_bits t) held)
+    ∙ content_by_place (values_at places) t
 
-rows_answered : (rows : List (List Value)) (places : List ℕ) (count : ℕ) (outs : List (List Out)) → length rows ≡ count
-    → AreAnswered (map (λ (c : ℕ). column_of c rows) places) count outs → outs ≡ map (map out_of) (map (chosen places) rows)
-rows_answered rows places count outs long answered =
-    same_lists outs (map (map out_of) (map (chosen places) rows))
-    (answered.long ∙ sym long ∙ sym (length-map rows (chosen places)) ∙ sym (length-map (map (chosen places) rows) (map out_of)))
-    (λ k d h.
-    let less : k < count = omega (arith, answered.long) in
-    let within : k < length rows = omega arith in
-    let there : k < length (map (chosen places) rows) = rw (length-map rows (chosen places)) within in
-    get_or_default outs k d [] h ∙ answered.each k less ∙ row_answered k rows places within
-    ∙ sym (get_or-map (map out_of) (map (chosen places) rows) k [] d there ∙ ap (map out_of) (get_or-map (chosen places) rows k [] [] within)))
+-- how many rows are there
+pub rows_counted : (s : Stored) (t : Table) (set : List Bool) → s.table.place ≡ 0 → GivesAlive s.table (told_by s.pages) set → StandsFor s t → count_by (λ on. on) set ≡ length (content t)
+rows_counted s t set first alive stands =
+    let held : TableStands (told_by s.pages) s.table.place s.table.parts (slot_rows t) (slot_bits t) =
+    subst (λ (p : ℕ). TableStands (told_by s.pages) p s.table.parts (slot_rows t) (slot_bits t)) (sym first) stands.holds in
+    ap (count_by (λ on. on)) (alive (slot_rows t) (slot_bits t) held) ∙ content_counted t
 
--- what was read of the columns, as it is answered
-pub answered_rows : (s : Stored) (t : Table) (members : List Item) (places : List ℕ) (columns : List (List Value)) (outs : List (List Out)) → AllByRecursion IsColumnItem members → first_no_column s.table.schema.columns members ≡ None
-    → places ≡ map (place_in s.table.schema.columns) members → GivesColumns (told_by s.pages) 0 s.table places columns → AreAnswered columns s.table.slots outs → StandsFor s t → outs ≡ map (projected t.columns members) (content t)
-answered_rows s t members places columns outs plain none at gives is stands =
-    let cols = s.table.schema.columns in
-    let read : columns ≡ map (λ (c : ℕ). column_of c (content t)) places = gives (content t) stands.holds in
-    rows_answered (content t) places s.table.slots outs stands.holds.slots_are (rw read at is)
-    ∙ ap (λ (ps : List ℕ). map (map out_of) (map (chosen ps) (content t))) at
-    ∙ all_rows cols members (content t) plain none
-    ∙ ap (λ (cs : List Column). map (projected cs members) (content t)) stands.columns_are
+-- rows that fit, one by one
+pub fits_each : (n : ℕ) (columns : List Column) (rows : List (List Value)) (i : ℕ) (bad : BadField) → first_bad_row n columns rows ≡ None → i < length rows → first_bad_field columns (row_at i rows) ≡ Some bad → ⊥
+fits_each n columns [] i bad fit h is = absurd (omega (arith, h))
+fits_each n columns (row ∷ rows) zero bad fit h is = let clash : Some (refusals.BadRow n bad.field bad.cause) ≡ None = sym (ap (refused_at n) is) ∙ none_left (bad_row n columns row) (first_bad_row (n + 1) columns rows) fit in cc
+fits_each n columns (row ∷ rows) (suc i) bad fit h is = fits_each (n + 1) columns rows i bad (none_right (bad_row n columns row) (first_bad_row (n + 1) columns rows) fit) (omega (arith, h)) is

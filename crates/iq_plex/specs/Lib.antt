@@ -1,3 +1,4 @@
+pub mod Laid
 pub mod Plex
 pub mod Sound
 pub mod Stored

@@ -13,9 +13,9 @@ ghost use Rattle.iq_plex.specs.Kept.{IsReadyFor};
 use crate::stored::Stored;
 use crate::{queries, tables, writes};
 use iq_ast::{Select, Write};
-use iq_base::{Listed, Locks, Name, NoMemory, NodeSpec, Refusal, SessionSpec};
+use iq_base::{Locks, Name, NoMemory, NodeSpec, Refusal, SessionSpec};
 use iq_history::{Entry, History};
-use iq_model::{Out, Script};
+use iq_model::{AnswerRows, Script};
 use std::alloc::Global;
 use std::marker::Model;
 use std::snapshot::Snapshot;
@@ -126,7 +126,7 @@ impl Plex {
         s: u32,
         line: u32,
         select: &Select,
-    ) -> Result<Listed<Listed<Out>>, Refusal>
+    ) -> Result<AnswerRows, Refusal>
         requires holds { HoldsLine (state_of self.old) s line (statements.Select select.now) }
         requires plain { IsPlainSelect select.now }
         ensures answer { IfOk result (λ rows. OfSeen self.old (λ db. rows ≡ answer select.now db)) }

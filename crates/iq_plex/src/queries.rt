@@ -1,19 +1,20 @@
 //! The rows of a query over stored tables.
-ghost use Rattle.std.specs.Prelude.{◌≡◌, ◌<◌, ◌⊎◌, map, Some, None, pos, [], ◌∷◌, IfErr, IfOk, OnOk};
+ghost use Rattle.std.specs.Prelude.{◌≡◌, ◌<◌, ◌⊎◌, ℕ, map, length, slice_index, Some, None, pos, [], ◌∷◌, IfErr, IfOk, OnOk};
 ghost use Rattle.std.specs.List.{AllByRecursion};
 ghost use Rattle.iq_ast.specs.declared.statements.Statement.TheVariants as statements;
 ghost use Rattle.iq_ast.specs.Built.{IsPlainSelect, AreItems};
 ghost use Rattle.iq_model.specs.Tables.{Database, Table, content};
-ghost use Rattle.iq_model.specs.Statements.{IsColumnItem, item_column, no_column, first_no_column, out_of, projected, rows_of, answer};
+ghost use Rattle.iq_model.specs.Statements.{IsColumnItem, item_column, no_column, first_no_column, projected, rows_of, answer};
+ghost use Rattle.iq_model.specs.Outs.{outs_of};
+ghost use Rattle.iq_table.specs.Table.{values_at};
 ghost use Rattle.iq_plex.specs.Plex.{IsTableCause, IsGranted};
-ghost use Rattle.iq_plex.specs.Stored.{OfTables, StayAs, OfTable, StaysAs, place_in, ArePlaces, answered_row, AreAnswered};
-ghost use Rattle.iq_table.specs.Layout.{value_at};
+ghost use Rattle.iq_plex.specs.Stored.{OfTables, StayAs, OfTable, StaysAs, place_in, ArePlaces};
 
 use crate::stored::Stored;
 use crate::tables::place_of;
 use iq_ast::{Item, Select};
-use iq_base::{Column, Listed, NoMemory, Refusal, Value};
-use iq_model::{Out, column_place, out_of};
+use iq_base::{Column, Listed, NoMemory, Refusal};
+use iq_model::{AnswerRows, Out, column_place};
 use std::alloc::Global;
 
 /// The rows of a query, or what refuses it. The tables stand as they stood.
@@ -21,7 +22,7 @@ pub fn select(
     alloc: Global,
     tables: &mut Vec<Stored>,
     select: &Select,
-) -> Result<Listed<Listed<Out>>, Refusal>
+) -> Result<AnswerRows, Refusal>
     requires { IsPlainSelect select.now }
     ensures granted { OnOk result (OfTables tables.old.items (IsGranted (statements.Select select.now))) }
     ensures rows { IfOk result (λ rows. OfTables tables.old.items (λ db. rows ≡ answer select.now db)) }
@@ -37,55 +38,70 @@ pub fn select(
 }
 
 /// The rows of a query over one table, or the first name that is no column of it.
-fn rows_in(
-    alloc: Global,
-    stored: &mut Stored,
-    items: &[Item],
-) -> Result<Listed<Listed<Out>>, Refusal>
+fn rows_in(alloc: Global, stored: &mut Stored, items: &[Item]) -> Result<AnswerRows, Refusal>
     requires { AreItems items.now }
-    ensures granted { OnOk result (first_no_column stored.old.table.schema.columns items.now ≡ None) }
+    ensures granted { OnOk result (first_no_column stored.old.columns items.now ≡ None) }
     ensures rows { IfOk result (λ rows. OfTable stored.old (λ t. rows ≡ rows_of t.columns items.now (content t))) }
-    ensures cause { IfErr result (λ e. (e ≡ Refusal.NoMemory) ⊎ (first_no_column stored.old.table.schema.columns items.now ≡ Some e)) }
+    ensures cause { IfErr result (λ e. (e ≡ Refusal.NoMemory) ⊎ (first_no_column stored.old.columns items.now ≡ Some e)) }
     ensures stays { StaysAs stored.old stored.new }
 {
     match items {
-        [Item::CountAll] => Ok(counted(alloc, stored.table.slots)?),
+        [Item::CountAll] => Ok(counted_rows(alloc, stored)?),
         _ => read_rows(alloc, stored, items),
     }
 }
 
+/// How many rows a table has, as the one row of an answer.
+fn counted_rows(alloc: Global, stored: &mut Stored) -> Result<AnswerRows, NoMemory>
+    ensures rows { IfOk result (λ rows. OfTable stored.old (λ t. rows ≡ (Out.Int (pos (length (content t))) ∷ []) ∷ [])) }
+    ensures stays { StaysAs stored.old stored.new }
+{
+    // Pages of which no call is to fail refuse for want of memory alone.
+    match stored.table.alive(alloc, &mut stored.pages) {
+        Ok(alive) => counted(alloc, alive.count()),
+        Err(_) => Err(NoMemory),
+    }
+}
+
 /// One row with one number.
-fn counted(alloc: Global, count: u32) -> Result<Listed<Listed<Out>>, NoMemory>
+fn counted(alloc: Global, count: u32) -> Result<AnswerRows, NoMemory>
     ensures { IfOk result (λ rows. rows ≡ (Out.Int (pos count) ∷ []) ∷ []) }
 {
     let mut row = Listed::new(alloc);
     row.push(Out::Int(i128::from(count)))?;
     let mut rows = Listed::new(alloc);
     rows.push(row)?;
-    Ok(rows)
+    Ok(AnswerRows::of_values(rows))
 }
 
 /// The values of columns, row by row, or the first name that is no column.
-fn read_rows(
-    alloc: Global,
-    stored: &mut Stored,
-    items: &[Item],
-) -> Result<Listed<Listed<Out>>, Refusal>
+fn read_rows(alloc: Global, stored: &mut Stored, items: &[Item]) -> Result<AnswerRows, Refusal>
     requires { AllByRecursion IsColumnItem items.now }
-    ensures granted { OnOk result (first_no_column stored.old.table.schema.columns items.now ≡ None) }
+    ensures granted { OnOk result (first_no_column stored.old.columns items.now ≡ None) }
     ensures rows { IfOk result (λ rows. OfTable stored.old (λ t. rows ≡ map (projected t.columns items.now) (content t))) }
-    ensures cause { IfErr result (λ e. (e ≡ Refusal.NoMemory) ⊎ (first_no_column stored.old.table.schema.columns items.now ≡ Some e)) }
+    ensures cause { IfErr result (λ e. (e ≡ Refusal.NoMemory) ⊎ (first_no_column stored.old.columns items.now ≡ Some e)) }
     ensures stays { StaysAs stored.old stored.new }
 {
-    let places = places(alloc, stored.table.schema.columns.as_slice(), items)?;
-    let count = stored.table.slots;
-    // Pages in memory of which no call is to fail refuse for want of memory alone.
+    let places = places(alloc, stored.columns.as_slice(), items)?;
+    Ok(rows_at(alloc, stored, places.as_slice())?)
+}
+
+/// The values that the rows of a table have in some columns, in their order.
+fn rows_at(alloc: Global, stored: &mut Stored, places: &[usize]) -> Result<AnswerRows, NoMemory>
+    requires { (i : ℕ) → i < length places.now → slice_index places.now i < length stored.old.columns }
+    ensures rows { IfOk result (λ rows. OfTable stored.old (λ t. rows ≡ map outs_of (map (values_at places.now) (content t)))) }
+    ensures stays { StaysAs stored.old stored.new }
+{
+    // Pages of which no call is to fail refuse for want of memory alone.
+    let Ok(alive) = stored.table.alive(alloc, &mut stored.pages) else {
+        return Err(NoMemory);
+    };
     match stored
         .table
-        .read_columns(alloc, 0, &mut stored.pages, places.as_slice())
+        .rows_of(alloc, &mut stored.pages, &alive, places)
     {
-        Ok(columns) => Ok(answered(alloc, columns.as_slice(), count)?),
-        Err(_) => Err(Refusal::NoMemory),
+        Ok(rows) => Ok(AnswerRows::of_columns(rows)),
+        Err(_) => Err(NoMemory),
     }
 }
 
@@ -117,39 +133,5 @@ fn place_in(columns: &[Column], item: &Item) -> Result<usize, Refusal>
         Item::CountAll | Item::Count(_) | Item::Sum(_) | Item::Min(_) | Item::Max(_) => {
             unreachable!()
         }
-    }
-}
-
-/// The first rows of columns, as they are answered.
-fn answered(
-    alloc: Global,
-    columns: &[Listed<Value>],
-    count: u32,
-) -> Result<Listed<Listed<Out>>, NoMemory>
-    ensures { IfOk result (AreAnswered columns.now count) }
-{
-    let mut outs = Listed::new(alloc);
-    for r in 0..count as usize {
-        outs.push(answered_row(alloc, columns, r)?)?;
-    }
-    Ok(outs)
-}
-
-fn answered_row(alloc: Global, columns: &[Listed<Value>], r: usize) -> Result<Listed<Out>, NoMemory>
-    ensures { IfOk result (λ outs. outs ≡ answered_row r columns.now) }
-{
-    let mut outs = Listed::new(alloc);
-    for column in columns {
-        outs.push(out_at(column, r))?;
-    }
-    Ok(outs)
-}
-
-fn out_at(column: &Listed<Value>, r: usize) -> Out
-    ensures { result ≡ out_of (value_at r column.now) }
-{
-    match column.get(r) {
-        Some(value) => out_of(value),
-        None => Out::Null,
     }
 }

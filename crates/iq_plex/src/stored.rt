@@ -1,13 +1,15 @@
 //! A stored table.
-ghost use Rattle.std.specs.Prelude.{◌≤◌, length};
+ghost use Rattle.iq_plex.specs.Laid.{IsLaid};
 
 use crate::sure_pages::SurePages;
+use iq_base::{Column, Listed};
 use iq_table::Table;
 
-/// A table and its pages, which are in memory.
+/// A table and its pages, which are in memory, with its columns as statements know them.
 #[derive(Drop)]
 pub struct Stored {
+    pub columns: Listed<Column>,
     pub table: Table,
     pub pages: SurePages,
-    ghost few_columns: { length table.schema.columns ≤ 32 },
+    ghost laid: { IsLaid columns table },
 }

@@ -1,8 +1,8 @@
 //! Pages in memory of which no call is to fail.
-ghost use Rattle.std.specs.Prelude.{◌≡◌, ℕ, []};
+ghost use Rattle.std.specs.Prelude.{◌≡◌, ℕ, [], IfOk};
 ghost use Rattle.iq_pages.specs.MemoryView.{memory_pages, memory_plan};
 
-use iq_base::Page;
+use iq_base::{NoMemory, Page};
 use iq_pages::{MemoryPages, PageFault, PageSink, PageSource};
 use std::alloc::Global;
 
@@ -21,6 +21,15 @@ impl SurePages {
         SurePages {
             memory: MemoryPages::new(alloc, Vec::new(alloc)),
         }
+    }
+
+    /// The same objects once more. It copies each page.
+    pub fn copied(&self) -> Result<SurePages, NoMemory>
+        ensures { IfOk result (λ copy. (object : ℕ) → memory_pages copy.memory object ≡ memory_pages self.now.memory object) }
+    {
+        Ok(SurePages {
+            memory: self.memory.copied()?,
+        })
     }
 }
 

@@ -47,7 +47,7 @@ fn check_insert(tables: &[Stored], name: &Name, rows: &[Row]) -> Option<Refusal>
 {
     match first_named(tables, name) {
         None => Some(Refusal::NoTable { name: name.again() }),
-        Some(stored) => first_bad_row(stored.table.schema.columns.as_slice(), rows),
+        Some(stored) => first_bad_row(stored.columns.as_slice(), rows),
     }
 }
 
@@ -55,7 +55,9 @@ fn check_insert(tables: &[Stored], name: &Name, rows: &[Row]) -> Option<Refusal>
 fn first_named<'a>(tables: &'a [Stored], name: &Name) -> Option<&'a Stored>
     ensures { option_copied result ≡ named name.now tables.now }
 {
-    tables.iter().find(|stored| stored.table.name == *name)
+    tables
+        .iter()
+        .find(|stored| stored.table.parts.name == *name)
 }
 
 /// The place of the table of a name.
@@ -64,7 +66,7 @@ pub fn place_of(tables: &[Stored], name: &Name) -> Option<usize>
     ensures within { IfSome result (λ i. i < length tables.now) }
 {
     for (i, stored) in tables.iter().enumerate() {
-        if stored.table.name == *name {
+        if stored.table.parts.name == *name {
             return Some(i);
         }
     }
@@ -77,7 +79,7 @@ pub fn before(tables: &[Stored], name: &Name) -> usize
     ensures within { result ≤ length tables.now }
 {
     for (i, stored) in tables.iter().enumerate() {
-        if *name > stored.table.name {
+        if *name > stored.table.parts.name {
             continue;
         }
         return i;

@@ -1,19 +1,21 @@
 //! The effect of a write on stored tables.
-ghost use Rattle.std.specs.Prelude.{◌≡◌, ◌≤◌, length, None, OnOk, OnErr, IfErr, IfOk};
+ghost use Rattle.std.specs.Prelude.{◌≡◌, ◌<◌, ◌≤◌, ◌^◌, length, None, Some, OnOk, OnErr, IfErr, IfOk};
 ghost use Rattle.iq_ast.specs.declared.statements.Statement.TheVariants as statements;
 ghost use Rattle.iq_ast.specs.Built.{IsWriteOfGrammar};
 ghost use Rattle.iq_model.specs.Scripts.{HasFewTuples};
 ghost use Rattle.iq_model.specs.Tables.{Database, Table, table_of, placed, with_rows, empty_table};
 ghost use Rattle.iq_model.specs.Statements.{write_checks, room_check, room_checks, first_bad_row, inserted, effect};
+ghost use Rattle.iq_cells.specs.Growing.{kinds_of};
 ghost use Rattle.iq_plex.specs.Plex.{Grants, Refuses};
-ghost use Rattle.iq_plex.specs.Stored.{StandsFor, bare, AreFit, OfTables, Leads, StayAs, OfTable, TableLeads, StaysAs};
+ghost use Rattle.iq_plex.specs.Stored.{StandsFor, bare, AreFit, OfTables, Leads, StayAs, OfTable, TableLeads, StaysAs, refusal_of};
 
 use crate::stored::Stored;
 use crate::sure_pages::SurePages;
 use crate::tables::{before, place_of};
 use iq_ast::Write;
-use iq_base::{Column, Listed, Name, NoMemory, Refusal, Row, Schema, row_limit};
-use iq_table::Table as PagedTable;
+use iq_base::{Column, Listed, Name, NoMemory, Refusal, Row};
+use iq_cells::{RowFault, Rows};
+use iq_table::{Table as PagedTable, TableFault};
 use std::alloc::Global;
 
 /// Writes the effect of a statement, of which the tests of what it names find nothing, into the tables; or answers what refuses
@@ -31,7 +33,7 @@ pub fn write(alloc: Global, tables: &mut Vec<Stored>, write: &Write) -> Result<(
         Write::CreateTable { name, schema } => {
             Ok(create(alloc, tables, name, schema.columns.as_slice())?)
         }
-        Write::Insert { table, rows } => insert(tables, table, rows.as_slice()),
+        Write::Insert { table, rows } => insert(alloc, tables, table, rows.as_slice()),
         Write::DropTable { .. }
         | Write::CreateIndex { .. }
         | Write::DropIndex { .. }
@@ -63,12 +65,16 @@ fn empty_stored(alloc: Global, name: &Name, columns: &[Column]) -> Result<Stored
     requires { length columns.now ≤ 32 }
     ensures { IfOk result (λ s. StandsFor s (empty_table name.now columns.now)) }
 {
+    let table = PagedTable::new(alloc, 0, name.again(), columns)?;
     let columns = copied_columns(alloc, columns)?;
-    let table = PagedTable::new(name.again(), Schema { columns });
     let mut pages = SurePages::new(alloc);
     // Pages of which no call is to fail refuse for want of memory alone.
-    match table.create(0, &mut pages) {
-        Ok(()) => Ok(Stored { table, pages }),
+    match table.create(&mut pages) {
+        Ok(()) => Ok(Stored {
+            columns,
+            table,
+            pages,
+        }),
         Err(_) => Err(NoMemory),
     }
 }
@@ -84,7 +90,7 @@ fn copied_columns(alloc: Global, columns: &[Column]) -> Result<Listed<Column>, N
 }
 
 /// Puts rows, which fit the table's columns, into the table of a name.
-fn insert(tables: &mut Vec<Stored>, name: &Name, rows: &[Row]) -> Result<(), Refusal>
+fn insert(alloc: Global, tables: &mut Vec<Stored>, name: &Name, rows: &[Row]) -> Result<(), Refusal>
     requires few { length rows.now ≤ 16777216 }
     requires fit { AreFit name.now rows.now tables.old.items }
     ensures ok { OnOk result (Leads (λ db. inserted (table_of name.now db) rows.now db) tables.old.items tables.new.items) }
@@ -94,25 +100,57 @@ fn insert(tables: &mut Vec<Stored>, name: &Name, rows: &[Row]) -> Result<(), Ref
 {
     match place_of(tables.as_slice(), name) {
         None => unreachable!(),
-        Some(place) => append(&mut tables[place], rows),
+        Some(place) => append(alloc, &mut tables[place], rows),
     }
 }
 
-/// Puts rows, which fit the columns, into a table, or answers that it has no room for them.
-fn append(stored: &mut Stored, rows: &[Row]) -> Result<(), Refusal>
+/// Puts rows, which fit the columns, into a table, or answers that it has no room for them. It copies the table's pages, so that
+/// these are as before wherever it fails.
+fn append(alloc: Global, stored: &mut Stored, rows: &[Row]) -> Result<(), Refusal>
     requires few { length rows.now ≤ 16777216 }
-    requires fit { first_bad_row 1 stored.old.table.schema.columns rows.now ≡ None }
+    requires fit { first_bad_row 1 stored.old.columns rows.now ≡ None }
     ensures ok { OnOk result (TableLeads (λ t. with_rows t rows.now) stored.old stored.new) }
     ensures room { OnOk result (OfTable stored.old (λ t. Grants (room_check (Some t) (length rows.now)))) }
     ensures err { OnErr result (StaysAs stored.old stored.new) }
     ensures cause { IfErr result (λ e. OfTable stored.old (λ t. Refuses (room_check (Some t) (length rows.now)) e)) }
 {
-    let limit = row_limit(stored.table.schema.columns.as_slice());
-    if stored.table.slots as u64 + rows.len() as u64 > limit as u64 {
-        return Err(Refusal::TableFull { limit });
-    }
-    match stored.table.append_rows(0, &mut stored.pages, rows) {
+    let rows = cells_of(alloc, stored.columns.as_slice(), rows)?;
+    let kept = stored.pages.copied()?;
+    match stored.table.append_rows(alloc, &mut stored.pages, &rows) {
         Ok(()) => Ok(()),
-        Err(_) => Err(Refusal::NoMemory),
+        Err(fault) => {
+            stored.pages = kept;
+            Err(refusal_of(fault))
+        }
+    }
+}
+
+/// Rows, which fit the columns, as cells.
+fn cells_of(alloc: Global, columns: &[Column], rows: &[Row]) -> Result<Rows, NoMemory>
+    requires few_columns { length columns.now < 2 ^ 32 }
+    requires few { length rows.now ≤ 16777216 }
+    requires fit { first_bad_row 1 columns.now rows.now ≡ None }
+    ensures { IfOk result (λ cells. cells ≡ record { kinds = kinds_of columns.now; rows = rows.now }) }
+{
+    let mut cells = Rows::with_room(alloc, columns, rows.len())?;
+    for row in rows {
+        match cells.push_row(columns, row.as_slice()) {
+            Ok(()) => {}
+            Err(RowFault::NoMemory) => return Err(NoMemory),
+            Err(RowFault::Bad(_)) => unreachable!(),
+        }
+    }
+    Ok(cells)
+}
+
+/// Why rows aren't put into a table whose pages refuse for want of memory alone.
+fn refusal_of(fault: TableFault) -> Refusal
+    ensures { result ≡ refusal_of fault }
+{
+    match fault {
+        TableFault::TableFull { limit } => Refusal::TableFull { limit },
+        TableFault::Failed { .. } | TableFault::BadPage { .. } | TableFault::NoMemory => {
+            Refusal::NoMemory
+        }
     }
 }

@@ -1,7 +1,8 @@
 //! Replies and their rows.
 use crate::texts::{CENSUS, name, says};
-use iq_base::{Letters, Listed, Refusal, Text};
-use iq_model::{Answer, Freed, NodeVersion, Out, Said, Sent, Versions};
+use iq_base::{Kind, Letters, Listed, Refusal, Text};
+use iq_cells::{Cells, Rows};
+use iq_model::{Answer, AnswerRows, Freed, NodeVersion, Out, Said, Sent, Versions};
 use std::test::Fail;
 
 #[test]
@@ -98,6 +99,23 @@ fn each_step_says_its_text(rt: HostRuntime) {
 }
 
 #[test]
+fn rows_of_columns_stand_as_rows_of_values(rt: HostRuntime) -> Result<(), Fail> {
+    let alloc = rt.alloc();
+    let mut numbers = Cells::new(alloc, Kind::Big);
+    numbers.push_null()?;
+    let _least = numbers.push_number(i64::MIN);
+    let mut texts = Cells::new(alloc, Kind::Varchar(3));
+    let _quoted = texts.push_text(b"a'b");
+    let _empty = texts.push_text(b"");
+    assert_eq!(rt; numbers.len(), 2);
+    assert_eq!(rt; texts.len(), 2);
+    let rows = Rows::of(vec![in alloc; numbers, texts]?, 2);
+    let want = "@7 rows 2\n  NULL,'a''b'\n  -9223372036854775808,''\n";
+    says(&rt, Said::Answer(Answer::Rows(AnswerRows::of_columns(rows))), want);
+    Ok(())
+}
+
+#[test]
 fn rows_stand_after_two_spaces(rt: HostRuntime) -> Result<(), Fail> {
     let alloc = rt.alloc();
     let quote = Text::of("it''s '").ok_or("a text")?;
@@ -107,7 +125,7 @@ fn rows_stand_after_two_spaces(rt: HostRuntime) -> Result<(), Fail> {
         Out::Text(quote),
     ]?;
     let rows = vec![in alloc; Listed::from_vec(first), Listed::new(alloc)]?;
-    let rows = Said::Answer(Answer::Rows(Listed::from_vec(rows)));
+    let rows = Said::Answer(Answer::Rows(AnswerRows::of_values(Listed::from_vec(rows))));
     let want = "@7 rows 2\n  -170141183460469231731687303715884105728,NULL,'it''''s '''\n  \n";
     says(&rt, rows, want);
     let plan = vec![in alloc; Letters::of(String::from_str(alloc, "x = 'ä' by LF l")?)]?;

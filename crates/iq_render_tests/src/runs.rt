@@ -6,7 +6,7 @@ ghost use Rattle.iq_render.specs.Placed.{ArePlacedReplies, IsPlacedSaid};
 use crate::texts::name;
 use iq_base::{Census, Listed, Locks, NoMemory};
 use iq_history::{Entry, History};
-use iq_model::{Answer, Out, Reply, Said};
+use iq_model::{Answer, AnswerRows, Out, Reply, Said};
 use iq_render::{history_part, replies_part, summary, transcript};
 use std::process::Abort;
 use std::test::Fail;
@@ -93,7 +93,7 @@ fn a_first_run_prints_its_replies_its_history_and_its_census(rt: HostRuntime) ->
     };
     let third = Reply {
         line: 3,
-        said: Said::Answer(Answer::Rows(rows)),
+        said: Said::Answer(Answer::Rows(AnswerRows::of_values(rows))),
     };
     prints(&rt, first, second, third, &history, census)?;
     Ok(())

@@ -1,7 +1,9 @@
 //! Runs compared with the plain program, which computes the definitions on lists; what it answers is printed here by hand.
+ghost use Rattle.std.specs.Prelude.{◌<◌, length};
+
 use iq_base::{FieldCause, Refusal};
 use iq_history::Entry;
-use iq_model::{Answer, Out, Reply, Said};
+use iq_model::{Answer, AnswerRows, Out, Reply, Said};
 use iq_outside::{SureDevice, SureSink};
 use iq_plain::plain_replies;
 use iq_run::step_run;
@@ -29,11 +31,13 @@ fn push_refusal(text: &mut String, cause: &Refusal) -> Result<(), Fail> {
 }
 
 /// Prints a row of an answer of whole numbers.
-fn push_row(text: &mut String, row: &[Out]) -> Result<(), Fail> {
+fn push_row(text: &mut String, rows: &AnswerRows, r: usize) -> Result<(), Fail>
+    requires { r < length rows.now }
+{
     let mut before = "  ";
-    for value in row {
+    for c in 0..rows.width(r) {
         text.push_str(before)?;
-        match value {
+        match rows.get(r, c) {
             Out::Null => text.push_str("NULL")?,
             Out::Int(number) => write!(text, "{number}")?,
             Out::Text(other) => write!(text, "{other:?}")?,
@@ -58,8 +62,8 @@ fn push_reply(text: &mut String, reply: &Reply) -> Result<(), Fail> {
         Said::Answer(Answer::Rows(rows)) => {
             let count = rows.len();
             write!(text, "@{line} rows {count}\n")?;
-            for row in rows.as_slice() {
-                push_row(text, row.as_slice())?;
+            for r in 0..count {
+                push_row(text, rows, r)?;
             }
         }
         Said::Refused(cause) => {
