@@ -76,7 +76,7 @@ impl Rows {
 
     /// How many values each row has.
     pub fn width(&self) -> usize
-        ensures value { result ≡ length self.now.kinds }
+        ensures kinds { result ≡ length self.now.kinds }
         ensures each { (r : ℕ) → r < length self.now.rows → length (row_at r self.now.rows) ≡ result }
     {
         self.columns.len()

@@ -1,5 +1,5 @@
 -- A column goes on with more values.
-use Rattle.std.proofs.Common.{◌≡◌, ◌≢◌, ◌<◌, ◌≤◌, ℕ, ◌+◌, ◌-◌, ◌*◌, ◌/◌, ◌%◌, ◌^◌, inl, inr, List, [], ◌∷◌, ◌++◌, map, take, drop, Option, Some, None, IfSome, length, slice_index, append-nil, append_assoc, zero-add, Bool, true, false, nat_eq, eq-eqb, if◌then◌else◌, refl, sym, ap, ap₂, ◌∙◌, subst, arith}
+use Rattle.std.proofs.Common.{◌≡◌, ◌≢◌, ◌<◌, ◌≤◌, ℕ, ◌+◌, ◌-◌, ◌*◌, ◌/◌, ◌%◌, ◌^◌, inl, inr, List, [], ◌++◌, map, Option, length, slice_index, zero-add, Bool, true, false, nat_eq, eq-eqb, if◌then◌else◌, sym, ap, ap₂, ◌∙◌, subst, arith}
 use Rattle.std.specs.Prelude.{Result, Ok, Err, OnOk}
 use Rattle.iq_pages.specs.declared.page_faults.PageFault.{PageFault}
 use Rattle.std.proofs.lemmas.Bool.{cases_lt}
@@ -14,7 +14,7 @@ use Rattle.iq_pages.proofs.PageLaws.{counts_on}
 use Rattle.std.proofs.lemmas.Bool.Decides.{nat_tests}
 use Rattle.iq_cells.specs.Pieces.{piece_in}
 use Rattle.iq_cells.specs.Packed.{value_at}
-use Rattle.iq_numbering.specs.Numbers.{AreDistinct, IsAt, IsFirstUse, IsNumbered}
+use Rattle.iq_numbering.specs.Numbers.{AreDistinct, IsAt, IsNumbered}
 use Rattle.iq_pieces.specs.Counts.{per_page, pages_changed}
 use Rattle.iq_pieces.specs.Codes.{AreBelow}
 use Rattle.iq_pieces.specs.Objects.{piece_at, HoldsObject, BeginsAs, Appends, AppendsBehind, HoldsAnew}
@@ -152,6 +152,11 @@ values_are fp told values stands =
     ext_get_or Null (map (λ (code : ℕ). value_at code stands.known) stands.codes) values long
     (λ i h. get_or-map (λ (code : ℕ). value_at code stands.known) stands.codes i 0 Null (omega (arith, long, stands.numbered.long)) ∙ (stands.numbered.each i (omega (arith, long))).there)
 
+-- so the distinct value at the code of a row is the row's
+pub value_of_row : (fp : Fp) (told : ℕ → Option Pages) (values : List Value) (stands : Stands fp told values) (row code : ℕ) (v : Value) → row < fp.slots → code ≡ slice_index stands.codes row → v ≡ value_at code stands.known → v ≡ value_at row values
+value_of_row fp told values stands row code v less is there =
+    there ∙ ap (λ (n : ℕ). value_at n stands.known) is ∙ (stands.numbered.each row (omega (arith, stands.slots))).there
+
 -- what a column stands for depends only on the pages of its two objects
 abbrev pub stands_there : (fp : Fp) (told told' : ℕ → Option Pages) (values : List Value) → told' fp.codes ≡ told fp.codes → told' fp.values ≡ told fp.values → Stands fp told values → Stands fp told' values
 stands_there fp told told' values ec ev s = record {
@@ -182,7 +187,7 @@ pub more_still : (old new : Fp) (told told' after : ℕ → Option Pages) (more 
 more_still old new told told' after more ec ev p = λ values stands. p values (stands_there old told told' values ec ev stands)
 
 -- how many pages an append in one form wrote
-pub written_same : (old new : Fp) (kind : Kind) (k f s w : ℕ) (a b c : Option ℕ) → kind ≡ old.kind → k ≡ old.distinct → new.distinct ≡ old.distinct + f → new.slots ≡ old.slots + s → code_width new.distinct ≡ code_width old.distinct → w ≡ code_width new.distinct → CountsMore (pages_changed (width kind) k f) a b → CountsMore (pages_changed w old.slots s) b c → CountsMore (pages_written old new) a c
+pub written_same : (old new : Fp) (kind : Kind) (k f s w : ℕ) (a b c : Option ℕ) → kind ≡ old.kind → k ≡ old.distinct → new.distinct ≡ old.distinct + f → new.slots ≡ old.slots + s → code_width new.distinct ≡ code_width old.distinct → w ≡ code_width new.distinct → CountsMore (pages_changed w old.slots s) a b → CountsMore (pages_changed (width kind) k f) b c → CountsMore (pages_written old new) a c
 written_same old new kind k f s w a b c ek eb ed es same ew p q =
     let test : nat_eq (code_width old.distinct) (code_width new.distinct) ≡ true = eq-eqb _ _ (sym same) in
     let fresh : new.distinct - old.distinct ≡ f = omega arith in
@@ -193,7 +198,8 @@ written_same old new kind k f s w a b c ek eb ed es same ew p q =
     ∙ ap₂ (λ (x : ℕ) (y : ℕ). pages_changed (width old.kind) old.distinct x + pages_changed (code_width old.distinct) old.slots y) fresh rows
     ∙ ap₂ (λ (x : ℕ) (y : ℕ). pages_changed x old.distinct f + pages_changed y old.slots s) (ap width (sym ek)) wide
     ∙ ap (λ (x : ℕ). pages_changed (width kind) x f + pages_changed w old.slots s) (sym eb) in
-    rw total (counts_on _ _ a b c p q)
+    let turned : pages_changed w old.slots s + pages_changed (width kind) k f ≡ pages_changed (width kind) k f + pages_changed w old.slots s = omega arith in
+    rw (total, ← turned) (counts_on _ _ a b c p q)
 
 -- and how many one in a wider form
 pub written_wider : (old new : Fp) (kind : Kind) (k f s w : ℕ) (a b c : Option ℕ) → kind ≡ old.kind → k ≡ old.distinct → new.distinct ≡ old.distinct + f → new.slots ≡ s → code_width new.distinct ≢ code_width old.distinct → w ≡ code_width new.distinct → CountsMore (pages_changed (width kind) k f) a b → CountsMore (pages_changed w 0 s) b c → CountsMore (pages_written old new) a c

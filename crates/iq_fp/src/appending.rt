@@ -90,7 +90,8 @@ impl Fp {
     }
 }
 
-/// Writes what an append changes of the two objects of a column.
+/// Writes what an append changes of the two objects of a column. What is read of codes is read before anything is written, so that a
+/// page that isn't there is found while each page is as it was.
 fn write_parts<S: PageSink>(
     alloc: Global,
     sink: &mut S,
@@ -108,8 +109,8 @@ fn write_parts<S: PageSink>(
 {
     let form = form_of(new.distinct);
     if code_bytes(new.distinct) == code_bytes(old.distinct) {
-        append_values(sink, old.values, known, &numbered.new)?;
-        append_codes(sink, old.codes, old.slots, &numbered.codes, form)
+        append_codes(sink, old.codes, old.slots, &numbered.codes, form)?;
+        append_values(sink, old.values, known, &numbered.new)
     } else {
         let codes = all_codes(alloc, sink, old, &numbered.codes)?;
         append_values(sink, old.values, known, &numbered.new)?;

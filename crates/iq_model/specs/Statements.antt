@@ -23,6 +23,7 @@ use Rattle.iq_ast.specs.declared.statements.Write.TheVariants as writes
 use Rattle.iq_ast.specs.declared.statements.Select.{Select}
 use Rattle.iq_ast.specs.declared.statements.Item.{Item}
 use Rattle.iq_ast.specs.declared.statements.Item.TheVariants as items
+use Rattle.iq_model.specs.Outs.{out_of}
 use Rattle.iq_model.specs.Tables.{Table, Database, content, with_rows, empty_table, same_name, table_of, placed, replaced}
 
 -- A test of a statement: its place in the order of tests, and the refusal that it finds, if any.
@@ -257,12 +258,6 @@ HasMeaning (statements.Release name) = ⊥
 HasMeaning statements.Sync = ⊥
 
 -- ANSWER
-
--- a value as it is answered
-abbrev pub out_of : Value → Out
-out_of values.Null = outs.Null
-out_of (values.Int z) = outs.Int z
-out_of (values.Text text) = outs.Text text
 
 -- a place of a row; NULL where there is none
 abbrev pub value_or_null : Option Value → Out

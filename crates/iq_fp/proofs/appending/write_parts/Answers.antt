@@ -1,4 +1,4 @@
-use Rattle.std.proofs.Common.{◌≡◌, ◌≢◌, ◌<◌, ◌≤◌, ◌+◌, ◌^◌, ℕ, map, length, sym, ap, ◌∙◌, arith}
+use Rattle.std.proofs.Common.{◌≡◌, ◌≢◌, ◌≤◌, ◌^◌, length, refl, sym, ap, ◌∙◌, arith}
 use Rattle.iq_pieces.specs.Codes.{AreBelow}
 use Rattle.iq_fp.specs.Forms.{code_width, bytes_of}
 use Rattle.iq_fp.proofs.Readings.{width_enough}
@@ -14,26 +14,27 @@ rewrite_codes-requires-clause-fit g c =
     let enough : c.args.new.now.distinct ≤ 256 ^ bytes_of c.form_of-form.result = rw c.form_of-form.ensures (width_enough c.args.new.now.distinct grown.few) in
     λ k h. let l = here k h in omega arith
 
-pub returns-in_ok-append_values-clause-ok : goal.returns-in_ok-append_values-clause-ok
-returns-in_ok-append_values-clause-ok g c =
+pub returns-in_ok-append_codes-clause-ok : goal.returns-in_ok-append_codes-clause-ok
+returns-in_ok-append_codes-clause-ok g c =
     let grown = c.requires.grown in
     let old = c.args.old.now in
     let new = c.args.new.now in
     let w = bytes_of c.form_of-form.result in
     let same : code_width new.distinct ≡ code_width old.distinct = sym c.code_bytes.ensures ∙ c.if-code_bytes.true ∙ c.code_bytes-2.ensures in
-    let after = c.append_codes.ensures.others.told old.values (λ e. grown.apart (sym e)) in
-    on_ok_two c.append_codes.result
+    let before = c.append_codes.ensures.others.told old.values (λ e. grown.apart (sym e)) in
+    let after = c.append_values.ensures.others.told old.codes grown.apart in
+    on_ok_two c.append_values.result
     (λ p q. record {
-      values = λ h. rw after ((rw grown.known_kind at c.in_ok-append_values.ensures.ok) h);
-      codes = codes_same_form old new (g.S.PageSource.told c.args.sink.now) (g.S.PageSource.told c.append_values.new.sink) (g.S.PageSource.told c.append_codes.new.sink) w c.args.numbered.now.codes.items
-          c.form_of-form.ensures (sym (c.form_of-form.ensures ∙ same)) (c.append_values.ensures.others.told old.codes grown.apart) (rw c.deref.ensures.value at p);
+      values = λ h. (rw grown.known_kind at p) (rw before h);
+      codes = λ values stands. rw after (codes_same_form old new (g.S.PageSource.told c.args.sink.now) (g.S.PageSource.told c.args.sink.now) (g.S.PageSource.told c.append_codes.new.sink) w c.args.numbered.now.codes.items
+          c.form_of-form.ensures (sym (c.form_of-form.ensures ∙ same)) refl (rw c.deref.ensures.value at c.in_ok-append_codes.ensures.ok) values stands);
       written = written_same old new c.args.known.now.kind (length c.args.known.now.values) (length c.args.numbered.now.new.values) (length c.args.numbered.now.codes.items) w _ _ _
-          grown.known_kind grown.before grown.distinct grown.slots same c.form_of-form.ensures c.in_ok-append_values.ensures.written (rw c.deref.ensures.value at q);
+          grown.known_kind grown.before grown.distinct grown.slots same c.form_of-form.ensures (rw c.deref.ensures.value at c.in_ok-append_codes.ensures.written) q;
     })
-    c.append_codes.ensures.ok c.append_codes.ensures.written
+    c.append_values.ensures.ok c.append_values.ensures.written
 
-pub returns-in_ok-append_values-2-clause-ok : goal.returns-in_ok-append_values-2-clause-ok
-returns-in_ok-append_values-2-clause-ok g c =
+pub returns-in_ok-append_values-clause-ok : goal.returns-in_ok-append_values-clause-ok
+returns-in_ok-append_values-clause-ok g c =
     let grown = c.requires.grown in
     let old = c.args.old.now in
     let new = c.args.new.now in
@@ -43,10 +44,10 @@ returns-in_ok-append_values-2-clause-ok g c =
     let slots : new.slots ≡ length c.in_ok-codes.codes.items = omega (arith, grown.slots, c.in_ok-codes.ensures.long, ap length c.deref-else-code_bytes.ensures.value) in
     on_ok_two c.rewrite_codes.result
     (λ p q. record {
-      values = λ h. rw after ((rw grown.known_kind at c.in_ok-append_values-2.ensures.ok) (rw (c.all_codes.ensures.reads.kept.told old.values) h));
+      values = λ h. rw after ((rw grown.known_kind at c.in_ok-append_values.ensures.ok) (rw (c.all_codes.ensures.reads.kept.told old.values) h));
       codes = codes_wider old new (g.S.PageSource.told c.args.sink.now) (g.S.PageSource.told c.append_values-else-code_bytes.new.sink) (g.S.PageSource.told c.rewrite_codes.new.sink) w c.args.numbered.now.codes.items c.in_ok-codes.codes.items
           c.form_of-form.ensures (c.append_values-else-code_bytes.ensures.others.told old.codes grown.apart ∙ c.all_codes.ensures.reads.kept.told old.codes) (rw c.deref-else-code_bytes.ensures.value at c.in_ok-codes.ensures.codes) (rw c.deref-else-code_bytes-2.ensures.value at p);
       written = written_wider old new c.args.known.now.kind (length c.args.known.now.values) (length c.args.numbered.now.new.values) (length c.in_ok-codes.codes.items) w _ _ _
-          grown.known_kind grown.before grown.distinct slots other c.form_of-form.ensures (rw c.all_codes.ensures.reads.writes at c.in_ok-append_values-2.ensures.written) (rw c.deref-else-code_bytes-2.ensures.value at q);
+          grown.known_kind grown.before grown.distinct slots other c.form_of-form.ensures (rw c.all_codes.ensures.reads.writes at c.in_ok-append_values.ensures.written) (rw c.deref-else-code_bytes-2.ensures.value at q);
     })
     c.rewrite_codes.ensures.ok c.rewrite_codes.ensures.written
