@@ -32,7 +32,7 @@ returns-clause-ok g c =
     let are : AreGrown (length rows) self.parts.columns columns = rw c.as_slice.ensures at c.in_ok-columns.ensures.grown in
     let grown : HasGrown self new (length rows) = record { rest = refl; slots = refl; columns = are } in
     let wide : (r : ℕ) → r < length rows → length (row_at r rows) ≡ length self.parts.columns =
-    λ r h. c.width-width.ensures.each r h ∙ c.width-width.ensures.value ∙ ap (λ (kinds : List Kind). length kinds) c.requires.kinds ∙ length-map self.parts.columns (λ (part : ColumnPart). part.kind) in
+    λ r h. c.width-width.ensures.each r h ∙ c.width-width.ensures.kinds ∙ ap (λ (kinds : List Kind). length kinds) c.requires.kinds ∙ length-map self.parts.columns (λ (part : ColumnPart). part.kind) in
     let more : ColumnsStandForMore (length self.parts.columns) self.place self.parts.slots slots self.parts.columns columns rows (g.S.PageSource.told c.args.sink.now) (g.S.PageSource.told c.write_rows.new.sink) = rw c.as_slice.ensures at c.in_ok-columns.ensures.ok in
     let whole = table_more self new rows (g.S.PageSource.told c.args.sink.now) (g.S.PageSource.told c.write_rows.new.sink) grown wide more c.in_ok-columns.ensures.existence in
     rw (put, count) whole
