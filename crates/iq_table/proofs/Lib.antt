@@ -2,4 +2,5 @@ pub mod Room
 pub mod Moves
 pub mod Making
 pub mod Growth
+pub mod TableGrowth
 pub mod Removals

@@ -59,6 +59,7 @@ impl Table {
         if rows.is_empty() {
             return Ok(());
         }
+        let _width = rows.width();
         let columns = write_rows(
             alloc,
             sink,
