@@ -86,8 +86,8 @@ pub grown_laid : (columns : List Column) (old new : PagedTable) (more : ℕ) →
 grown_laid columns old new more laid grown = record {
   first = ap (λ (x : PagedTable). x.place) grown.rest ∙ laid.first;
   plain = ap (λ (x : PagedTable). x.parts.indexes) grown.rest ∙ laid.plain;
-  few = omega (arith, grown.long, laid.few);
-  columns_are = columns_grown old.parts.columns new.parts.columns more grown.long grown.columns ∙ laid.columns_are;
+  few = omega (arith, grown.columns.long, laid.few);
+  columns_are = columns_grown old.parts.columns new.parts.columns more grown.columns.long grown.columns.each ∙ laid.columns_are;
 }
   where
     columns_grown : (olds news : List ColumnPart) (more : ℕ) → length news ≡ length olds → ((c : ℕ) → c < length olds → IsPartGrown more (part_at c olds) (part_at c news)) → as_columns news ≡ as_columns olds
