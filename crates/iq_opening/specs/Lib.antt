@@ -1,0 +1,5 @@
+pub mod Steps
+pub mod Tables
+pub mod Walk
+pub mod Opening
+pub mod Calls
