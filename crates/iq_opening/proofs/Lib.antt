@@ -1,1 +1,4 @@
 pub mod Ways
+pub mod OneStep
+pub mod Parts
+pub mod Refs
