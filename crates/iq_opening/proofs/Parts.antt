@@ -1,19 +1,20 @@
 -- How lists of steps begin and go on.
-use Rattle.std.specs.Prelude.{◌≡◌, ◌≢◌, ℕ, suc, ◌+◌, ◌-◌, ◌*◌, ◌/◌, ◌<◌, ◌≤◌, min, Bool, true, false, List, [], ◌∷◌, ◌++◌, length, take, drop, map, slice_index, get_or, nat_eq, nat_le}
+use Rattle.std.specs.Prelude.{◌≡◌, ◌≢◌, ℕ, suc, ◌+◌, ◌-◌, ◌*◌, ◌/◌, ◌<◌, ◌≤◌, min, Bool, true, false, List, [], ◌∷◌, ◌++◌, length, take, drop, map, flat_map, slice_index, get_or, nat_eq, nat_le}
 use Rattle.std.proofs.Common.{refl, sym, ap, ◌∙◌, arith, append-nil, append_assoc, add-one}
 use Rattle.std.proofs.Math.Seq.{drop-cons}
 use Rattle.std.proofs.lemmas.List.{drop_all}
 use Rattle.std.proofs.lemmas.Bool.{le-leb}
 use Rattle.std.proofs.lemmas.Bool.Decides.{nat_tests}
 use Rattle.iq_outside.specs.Devices.{block_of}
-use Rattle.iq_block_store.specs.Frames.{page_kind}
+use Rattle.iq_block_store.specs.Frames.{page_kind, descriptor_kind, number_at, payload_of}
 use Rattle.iq_base.specs.declared.refs.Ref.{Ref}
 use Rattle.iq_block_map.specs.Maps.{places}
 use Rattle.iq_block_map.specs.Objects.{leaf_count}
 use Rattle.iq_base.specs.declared.descriptors.ColumnPart.{ColumnPart}
 use Rattle.iq_base.specs.declared.descriptors.IndexPart.{IndexPart}
 use Rattle.iq_base.specs.declared.descriptors.Descriptor.{Descriptor}
-use Rattle.iq_opening.specs.Steps.{Step, visit, visit_map, named, page_steps, leaf_steps, leaves_steps, high_steps, object_steps, object_from, column_steps, columns_steps, index_steps, indexes_steps, objects_steps}
+use Rattle.iq_opening.specs.Steps.{Step, visit, visit_map, named, page_steps, leaf_steps, leaves_steps, high_steps, object_steps, object_from, column_steps, columns_steps, index_steps, indexes_steps, objects_steps, other_steps, block_steps}
+use Rattle.iq_opening.specs.Tables.{more_of, blocks_at, head_page, other_page, pages_at}
 
 pub leaf_begins : (all : List (List ℕ)) (holder at used : ℕ) (ps named : List ℕ) → ps ≡ places (block_of all at) → named ≡ take used ps
     → leaf_steps all holder at used ≡ (visit_map holder at 1 used ∷ []) ++ page_steps at (drop 0 named)
@@ -121,3 +122,46 @@ pub indexes_same : (all : List (List ℕ)) (blocks : List ℕ) (columns cs : Lis
     → count ≡ length cs → is ≡ indexes
     → indexes_steps all blocks (57 + 55 * length columns) indexes ≡ indexes_steps all blocks (57 + 55 * count) is
 indexes_same all blocks columns cs indexes is count first size second = rw (size, first, second) refl
+
+pub no_other : (head at : ℕ) → at ≡ 0 → other_steps head at ≡ []
+unfolding other_steps
+no_other head at none = rw none refl
+
+pub some_other : (head at : ℕ) → at ≢ 0 → other_steps head at ≡ visit head at descriptor_kind ∷ []
+unfolding other_steps
+some_other head at some =
+    let is_some : nat_eq at 0 ≡ false = grind (arith, nat_tests) in
+    rw is_some refl
+
+pub no_other_page : (all : List (List ℕ)) (at : ℕ) → at ≡ 0 → other_page all at ≡ []
+no_other_page all at none = rw none refl
+
+pub some_other_page : (all : List (List ℕ)) (at : ℕ) → at ≢ 0 → other_page all at ≡ payload_of (block_of all at) ∷ []
+some_other_page all at some =
+    let is_some : nat_eq at 0 ≡ false = grind (arith, nat_tests) in
+    rw is_some refl
+
+pub blocks_begin : (all : List (List ℕ)) (body head : ℕ)
+    → block_steps all body head ≡ (visit body head descriptor_kind ∷ []) ++ flat_map (other_steps head) (more_of (block_of all head))
+unfolding block_steps
+blocks_begin all body head = refl
+
+pub more_are : (all : List (List ℕ)) (head second third fourth : ℕ) (block : List ℕ) → block ≡ block_of all head → second ≡ number_at block 16
+    → third ≡ number_at block 20 → fourth ≡ number_at block 24
+    → flat_map (other_steps head) (more_of (block_of all head))
+    ≡ other_steps head second ++ (other_steps head third ++ (other_steps head fourth ++ []))
+more_are all head second third fourth block is a b c = rw (a, b, c, is) refl
+
+pub blocks_are : (all : List (List ℕ)) (head second third fourth : ℕ) (block : List ℕ) → block ≡ block_of all head → second ≡ number_at block 16
+    → third ≡ number_at block 20 → fourth ≡ number_at block 24 → head ∷ second ∷ third ∷ fourth ∷ [] ≡ blocks_at all head
+blocks_are all head second third fourth block is a b c = rw (a, b, c, is) refl
+
+pub pages_are : (all : List (List ℕ)) (head second third fourth : ℕ) (block page : List ℕ) (p1 p2 p3 p4 : List (List ℕ)) → block ≡ block_of all head
+    → second ≡ number_at block 16 → third ≡ number_at block 20 → fourth ≡ number_at block 24 → page ≡ head_page block → p1 ≡ page ∷ []
+    → p2 ≡ p1 ++ other_page all second → p3 ≡ p2 ++ other_page all third → p4 ≡ p3 ++ other_page all fourth → p4 ≡ pages_at all head
+pages_are all head second third fourth block page p1 p2 p3 p4 is a b c first one two three four =
+    rw (four, three, two, one, first, a, b, c, is)
+    (append_assoc (head_page (block_of all head) ∷ other_page all (number_at (block_of all head) 16)) (other_page all (number_at (block_of all head) 20))
+    (other_page all (number_at (block_of all head) 24))
+    ∙ ap (λ (ps : List (List ℕ)). head_page (block_of all head) ∷ (other_page all (number_at (block_of all head) 16) ++ (other_page all (number_at (block_of all head) 20) ++ ps)))
+    (sym (append-nil (other_page all (number_at (block_of all head) 24)))))

@@ -75,7 +75,10 @@ comes_behind before name = is_less (slice_cmp nat_cmp before name)
 abbrev pub has_sizes : Format → Descriptor → Bool
 has_sizes coded t = fits_slots t
 
--- what pages and the addresses of their blocks say is a table whose name comes behind another
+-- a table may stand in a store behind a name, with these addresses of its descriptor's other blocks
+abbrev pub may_stand : Format → List ℕ → List ℕ → Descriptor → Bool
+may_stand format before more t = are_packed more && comes_behind before t.name && has_sizes format t
+
+-- pages are those of a table that may stand there
 abbrev pub is_table : Format → List ℕ → List ℕ → List (List ℕ) → Bool
-is_table format before more pages =
-    are_packed more && is_descriptor pages && comes_behind before (said_by pages).name && has_sizes format (said_by pages)
+is_table format before more pages = is_descriptor pages && may_stand format before more (said_by pages)

@@ -18,7 +18,7 @@ use std::alloc::Global;
 /// A descriptor as it stands in a store: its blocks, 0 where there is none, and their pages, with 0 for the addresses of the others.
 #[derive(Drop)]
 pub struct Found {
-    pub blocks: [u32; 4],
+    pub block_numbers: [u32; 4],
     pub pages: Vec<Page>,
 }
 
@@ -77,8 +77,8 @@ pub fn reach_descriptor<D: Device>(
     requires { HasBits (D.blocks disk.old) reached.old }
     ensures ok { OnOk result (Goes D.Device (λ all. block_steps all body head)
         disk.old disk.new reached.old reached.new) }
-    ensures blocks { IfOk result (λ found. WhereTold (D.blocks disk.old)
-        (λ all. found.blocks ≡ blocks_at all head)) }
+    ensures numbers { IfOk result (λ found. WhereTold (D.blocks disk.old)
+        (λ all. found.block_numbers ≡ blocks_at all head)) }
     ensures pages { IfOk result (λ found. WhereTold (D.blocks disk.old)
         (λ all. found.pages.items ≡ pages_at all head)) }
     ensures err { IfErr result (Stops D.Device (λ all. block_steps all body head)
@@ -94,6 +94,9 @@ pub fn reach_descriptor<D: Device>(
     reach_other(disk, reached, head, second, &mut pages)?;
     reach_other(disk, reached, head, third, &mut pages)?;
     reach_other(disk, reached, head, fourth, &mut pages)?;
-    let blocks = [head, second, third, fourth];
-    Ok(Found { blocks, pages })
+    let block_numbers = [head, second, third, fourth];
+    Ok(Found {
+        block_numbers,
+        pages,
+    })
 }

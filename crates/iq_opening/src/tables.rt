@@ -3,7 +3,7 @@ ghost use Rattle.std.specs.Prelude.{◌≡◌, ◌≤◌, ◌++◌, [], ◌∷�
 ghost use Rattle.iq_block_map.specs.Refs.{WhereTold};
 ghost use Rattle.iq_base.specs.declared.descriptors.Descriptor.{Descriptor};
 ghost use Rattle.iq_catalog.specs.Storable.{IsStorable};
-ghost use Rattle.iq_opening.specs.Tables.{coded, is_table, said_by, comes_behind, are_packed, table_at};
+ghost use Rattle.iq_opening.specs.Tables.{coded, may_stand, is_table, said_by, comes_behind, are_packed, table_at};
 ghost use Rattle.iq_opening.specs.Steps.{table_steps, tables_steps};
 ghost use Rattle.iq_opening.specs.Opening.{tables_at};
 ghost use Rattle.iq_opening.specs.Calls.{Goes, Stops, HasBits};
@@ -44,6 +44,14 @@ fn comes_behind(before: &Name, name: &Name) -> bool
     }
 }
 
+/// Whether a table may stand here: no address is missing in the middle, its name comes behind another, and its objects have their
+/// sizes.
+fn may_stand(before: &Name, more: &[u32], table: &Descriptor) -> bool
+    ensures { result ≡ may_stand coded before.now more.now table.now }
+{
+    are_packed(more) && comes_behind(before, &table.name) && fits_slots(table)
+}
+
 /// The table that pages say, where its name comes behind another and its objects have their sizes; none where they say no such
 /// table.
 fn table_of(
@@ -62,7 +70,7 @@ fn table_of(
         Err(CatalogFault::BadCatalog { .. }) => return Ok(None),
         Err(CatalogFault::NoMemory) => return Err(NoMemory),
     };
-    if are_packed(more) && comes_behind(before, &table.name) && fits_slots(&table) {
+    if may_stand(before, more, &table) {
         Ok(Some(table))
     } else {
         Ok(None)
@@ -87,10 +95,10 @@ fn reach_table<D: Device>(
         (λ all. table_steps all coded body before.now head) disk.old disk.new reached.old) }
 {
     let found = reach_descriptor(alloc, disk, reached, body, head)?;
-    let Some(table) = table_of(alloc, before, found.blocks.split_at(1).1, &found.pages)? else {
+    let Some(table) = table_of(alloc, before, found.block_numbers.split_at(1).1, &found.pages)? else {
         return Err(bad(head, StoreCause::BadCatalog));
     };
-    reach_objects(disk, reached, &found.blocks, &table)?;
+    reach_objects(disk, reached, &found.block_numbers, &table)?;
     Ok(table)
 }
 
