@@ -2,7 +2,7 @@
 use Rattle.std.specs.Prelude.{◌≡◌, ◌≢◌, ℕ, suc, ◌+◌, ◌<◌, ◌≤◌, Bool, true, false, ◌&&◌, List, [], ◌∷◌, ◌++◌, length, take, drop, map, replicate, slice_index, nat_eq, nat_le, Option, Some, None, Result, Ok, Err}
 use Rattle.std.proofs.Common.{refl, sym, ap, ◌∙◌, arith, add-one}
 use Rattle.std.proofs.Math.Seq.{drop-cons}
-use Rattle.std.proofs.lemmas.List.{drop_all, take_more, take_all}
+use Rattle.std.proofs.lemmas.List.{drop_all, take_more, take_all, length-replicate}
 use Rattle.std.proofs.lemmas.Bool.{eq-eqb, le-leb}
 use Rattle.std.proofs.lemmas.Bool.Decides.{nat_tests}
 use Rattle.iq_outside.specs.Devices.{block_of}
@@ -115,11 +115,28 @@ pub root_size : (all : List (List ℕ)) (root : Root) → root.format ≢ 1 → 
 root_size all root new large other =
     rw (other_number root.format 1 new, le-leb 4 (length all) large, other_number (length all) root.count other) refl
 
-pub root_walked : (all : List (List ℕ)) (root : Root) (reached : List Bool) (heads : List ℕ) (outcome : Result (List Bool) Fault) → root.format ≢ 1
-    → 4 ≤ length all → length all ≡ root.count → reached ≡ replicate (length all) false → heads ≡ root.tables
-    → walked all reached (tables_steps all coded (body_of root) [] heads) ≡ outcome → root_opened all root ≡ outcome
+pub root_walked : (all : List (List ℕ)) (root : Root) (count body : ℕ) (outcome : Result (List Bool) Fault) → root.format ≢ 1
+    → 4 ≤ count → count ≡ length all → count ≡ root.count → body ≡ body_of root
+    → walked all (none_reached count) (tables_steps all coded body [] root.tables) ≡ outcome → root_opened all root ≡ outcome
+root_walked all root count body outcome new large size same from is =
+    rw (
+      other_number root.format 1 new,
+      le-leb 4 (length all) (omega (arith, large, size)),
+      eq-eqb (length all) root.count (sym size ∙ same),
+    )
+    (rw (← from, ← size) is)
+
+-- a way from no block on
+pub from_none : (all : List (List ℕ)) (count body : ℕ) (reached : List Bool) (heads named : List ℕ) (outcome : Result (List Bool) Fault)
+    → reached ≡ replicate count false → heads ≡ named
+    → walked all reached (tables_steps all coded body [] heads) ≡ outcome
+    → walked all (none_reached count) (tables_steps all coded body [] named) ≡ outcome
 unfolding none_reached
-root_walked all root reached heads outcome new large size none same is =
-    rw (other_number root.format 1 new, le-leb 4 (length all) large, eq-eqb (length all) root.count size)
-    (ap (λ (r : List Bool). walked all r (tables_steps all coded (body_of root) [] root.tables)) (sym none)
-    ∙ (ap (λ (hs : List ℕ). walked all reached (tables_steps all coded (body_of root) [] hs)) (sym same) ∙ is))
+from_none all count body reached heads named outcome none same is = rw (← none, ← same) is
+
+pub none_size : (count : ℕ) (reached : List Bool) → reached ≡ replicate count false → length reached ≡ count
+none_size count reached none = ap length none ∙ length-replicate count false
+
+pub same_tables : (all : List (List ℕ)) (heads named : List ℕ) (tables : List StoredTable) → heads ≡ named → tables ≡ tables_at all heads
+    → tables ≡ tables_at all named
+same_tables all heads named tables same are = are ∙ ap (tables_at all) same

@@ -1,8 +1,11 @@
 //! The way through a store, from its newest root.
-ghost use Rattle.std.specs.Prelude.{◌≡◌, Ok, IfOk, IfErr};
+ghost use Rattle.std.specs.Prelude.{◌≡◌, Ok, [], IfOk, IfErr, length};
 ghost use Rattle.iq_block_store.specs.Looks.{HasLooked};
 ghost use Rattle.iq_block_map.specs.Refs.{WhereTold};
-ghost use Rattle.iq_opening.specs.Opening.{body_of, root_opened, opened, tables_at, Opens};
+ghost use Rattle.iq_opening.specs.Tables.{coded};
+ghost use Rattle.iq_opening.specs.Steps.{tables_steps};
+ghost use Rattle.iq_opening.specs.Walk.{walked};
+ghost use Rattle.iq_opening.specs.Opening.{body_of, none_reached, root_opened, opened, tables_at, Opens};
 ghost use Rattle.iq_opening.specs.Calls.{IsOpenFault};
 
 use crate::faults::bad;
@@ -38,6 +41,7 @@ pub fn open<D: Device>(alloc: Global, disk: &mut D) -> Result<Opening, OpenFault
     ensures looked { HasLooked D.Device disk.old disk.new }
     ensures ok { IfOk result (λ opening. WhereTold (D.blocks disk.old)
         (λ all. Opens all opening)) }
+    ensures count { IfOk result (λ opening. length opening.reached ≡ opening.root.count) }
     ensures cause { IfErr result (λ e. IsOpenFault opened e
         (D.blocks disk.old) (D.faults disk.old) (D.faults disk.new)) }
 {
@@ -62,6 +66,7 @@ fn body_of(root: &Root) -> u32
 fn open_root<D: Device>(alloc: Global, disk: &mut D, root: Root) -> Result<Opening, OpenFault>
     ensures looked { HasLooked D.Device disk.old disk.new }
     ensures root { IfOk result (λ opening. opening.root ≡ root) }
+    ensures count { IfOk result (λ opening. length opening.reached ≡ root.count) }
     ensures tables { IfOk result (λ opening. WhereTold (D.blocks disk.old)
         (λ all. opening.tables ≡ tables_at all root.tables)) }
     ensures ok { IfOk result (λ opening. WhereTold (D.blocks disk.old)
@@ -77,11 +82,35 @@ fn open_root<D: Device>(alloc: Global, disk: &mut D, root: Root) -> Result<Openi
     if count < 4 || count != root.count {
         return Err(bad(body, StoreCause::Size));
     }
-    let mut reached = Bitmap::empty(alloc, count)?;
-    let tables = reach_tables(alloc, disk, &mut reached, body, root.tables.as_slice())?;
+    let (tables, reached) = reach_root(alloc, disk, count, body, &root)?;
     Ok(Opening {
         root,
         tables,
         reached,
     })
+}
+
+/// Reaches all that a root names, from its body on, in a store of so many blocks.
+fn reach_root<D: Device>(
+    alloc: Global,
+    disk: &mut D,
+    count: u32,
+    body: u32,
+    root: &Root,
+) -> Result<(Listed<StoredTable>, Bitmap), OpenFault>
+    requires { WhereTold (D.blocks disk.old) (λ all. count ≡ length all) }
+    ensures looked { HasLooked D.Device disk.old disk.new }
+    ensures tables { IfOk result (λ found. WhereTold (D.blocks disk.old)
+        (λ all. found.0 ≡ tables_at all root.now.tables)) }
+    ensures count { IfOk result (λ found. length found.1 ≡ count) }
+    ensures ok { IfOk result (λ found. WhereTold (D.blocks disk.old)
+        (λ all. walked all (none_reached count)
+            (tables_steps all coded body [] root.now.tables) ≡ Ok found.1)) }
+    ensures cause { IfErr result (λ e. IsOpenFault (λ all. walked all (none_reached count)
+            (tables_steps all coded body [] root.now.tables)) e
+        (D.blocks disk.old) (D.faults disk.old) (D.faults disk.new)) }
+{
+    let mut reached = Bitmap::empty(alloc, count)?;
+    let tables = reach_tables(alloc, disk, &mut reached, body, root.tables.as_slice())?;
+    Ok((tables, reached))
 }
