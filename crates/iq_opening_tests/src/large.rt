@@ -1,0 +1,1 @@
+//! Images with a map above maps, and with descriptors of two blocks.
