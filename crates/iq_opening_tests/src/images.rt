@@ -157,16 +157,35 @@ fn first_table(alloc: Global, blocks: &mut [Block]) -> Result<Descriptor, NoMemo
     let mut columns = Listed::new(alloc);
     columns.push(column("a", Kind::Int, object(blocks, 7, 1), object(blocks, 9, 1)))?;
     columns.push(column("b", Kind::Int, object(blocks, 11, 1), object(blocks, 13, 1)))?;
-    columns.push(column("c", Kind::Varchar(8), object(blocks, 15, 1), object(blocks, 17, 1)))?;
+    columns.push(column(
+        "c",
+        Kind::Varchar(8),
+        object(blocks, 15, 1),
+        object(blocks, 17, 1),
+    ))?;
     let mut indexes = Listed::new(alloc);
-    let parts = [object(blocks, 19, 1), object(blocks, 21, 1), object(blocks, 23, 1)];
+    let parts = [
+        object(blocks, 19, 1),
+        object(blocks, 21, 1),
+        object(blocks, 23, 1),
+    ];
     let mut low_fast = index("l", IndexKind::Lf, 0, parts);
     low_fast.distinct = 2;
     indexes.push(low_fast)?;
     let parts = [object(blocks, 25, 1), object(blocks, 27, 1), EMPTY];
     indexes.push(index("h", IndexKind::Hg, 2, parts))?;
-    indexes.push(index("n", IndexKind::Hng, 0, [object(blocks, 29, 33), EMPTY, EMPTY]))?;
-    let mut compare = index("m", IndexKind::Cmp, 0, [object(blocks, 63, 3), EMPTY, EMPTY]);
+    indexes.push(index(
+        "n",
+        IndexKind::Hng,
+        0,
+        [object(blocks, 29, 33), EMPTY, EMPTY],
+    ))?;
+    let mut compare = index(
+        "m",
+        IndexKind::Cmp,
+        0,
+        [object(blocks, 63, 3), EMPTY, EMPTY],
+    );
     compare.spec.second = Some(1);
     indexes.push(compare)?;
     Ok(Descriptor {

@@ -12,3 +12,5 @@ mod images;
 mod large;
 #[cfg(test)]
 mod stores;
+#[cfg(test)]
+mod tables;

@@ -36,7 +36,11 @@ fn a_store_opens_with_its_tables_and_what_they_reach(rt: HostRuntime) -> Result<
     let mut blocks = zeros(alloc, 4)?;
     root(&mut blocks, 1, 2, 4, &[]);
     let (names, reached) = told(alloc, opened(alloc, blocks))?;
-    assert_eq!(rt; (names.as_str(), reached), ("", 0), "an empty store of 4 blocks");
+    assert_eq!(rt;
+        (names.as_str(), reached),
+        ("", 0),
+        "an empty store of 4 blocks"
+    );
     Ok(())
 }
 
@@ -48,7 +52,11 @@ fn a_device_of_few_blocks_is_no_store(rt: HostRuntime) -> Result<(), Fail> {
             block: 0,
             cause: StoreCause::NoRoot,
         });
-        assert_eq!(rt; opened(alloc, zeros(alloc, count)?).err(), none, "{count} zero blocks");
+        assert_eq!(rt;
+            opened(alloc, zeros(alloc, count)?).err(),
+            none,
+            "{count} zero blocks"
+        );
         let mut blocks = zeros(alloc, count)?;
         root(&mut blocks, 2, 2, count as u32, &[]);
         let size = Some(OpenFault::NotAStore {
@@ -56,7 +64,11 @@ fn a_device_of_few_blocks_is_no_store(rt: HostRuntime) -> Result<(), Fail> {
             cause: StoreCause::Size,
         });
         let expected = if count < 2 { none } else { size };
-        assert_eq!(rt; opened(alloc, blocks).err(), expected, "slot 0 in {count} blocks");
+        assert_eq!(rt;
+            opened(alloc, blocks).err(),
+            expected,
+            "slot 0 in {count} blocks"
+        );
     }
     Ok(())
 }
