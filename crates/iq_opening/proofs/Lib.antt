@@ -4,3 +4,6 @@ pub mod Parts
 pub mod Refs
 pub mod Stored
 pub mod Wholes
+pub mod Passed
+pub mod Same
+pub mod Stands

@@ -3,3 +3,4 @@ pub mod Tables
 pub mod Walk
 pub mod Opening
 pub mod Calls
+pub mod Laws

@@ -7,10 +7,12 @@
 
 mod descriptors;
 mod faults;
+mod laws;
 mod objects;
 mod opening;
 mod reaching;
 mod tables;
 
 pub use faults::{OpenFault, StoreCause};
+pub use laws::tables_stand_on_what_they_reach;
 pub use opening::{Opening, StoredTable, open};
