@@ -7,3 +7,4 @@ pub mod Wholes
 pub mod Passed
 pub mod Same
 pub mod Stands
+pub mod Unset

@@ -4,3 +4,4 @@ pub mod Walk
 pub mod Opening
 pub mod Calls
 pub mod Laws
+pub mod Free

@@ -7,6 +7,7 @@
 
 mod descriptors;
 mod faults;
+mod free;
 mod laws;
 mod objects;
 mod opening;
@@ -14,5 +15,6 @@ mod reaching;
 mod tables;
 
 pub use faults::{OpenFault, StoreCause};
+pub use free::free_list;
 pub use laws::tables_stand_on_what_they_reach;
 pub use opening::{Opening, StoredTable, open};
