@@ -1,16 +1,16 @@
 -- One step, by what was read.
-use Rattle.std.specs.Prelude.{◌≡◌, ◌≢◌, ℕ, Bool, true, false, ◌&&◌, List, [], ◌∷◌, length, drop, nat_eq, slice_set, Option, Some, None, Result, Ok, Err}
+use Rattle.std.specs.Prelude.{◌≡◌, ◌≢◌, ℕ, Bool, true, false, List, [], ◌∷◌, length, drop, nat_eq, slice_set, Some, None, Ok, Err}
 use Rattle.std.specs.List.{list_all}
 use Rattle.std.proofs.Common.{refl, sym, ap, ◌∙◌, arith}
-use Rattle.std.proofs.lemmas.Bool.{eq-eqb, eqb-true}
+use Rattle.std.proofs.lemmas.Bool.{eq-eqb}
 use Rattle.std.proofs.lemmas.Bool.Decides.{nat_tests}
 use Rattle.iq_outside.specs.Devices.{block_of}
 use Rattle.iq_block_store.specs.Frames.{number_at, map_kind, has_header}
 use Rattle.iq_block_map.specs.declared.map_bytes.RawMap.{RawMap}
 use Rattle.iq_block_map.specs.Maps.{places, IsRawMap}
 use Rattle.iq_opening.specs.declared.faults.StoreCause.TheVariants.{BadHeader, BadMap}
-use Rattle.iq_opening.specs.Steps.{Step, visit, visit_map}
-use Rattle.iq_opening.specs.Walk.{Fault, fault, first_of, unless, reach_fault, is_map_of, is_spare_zero, fault_at, walked}
+use Rattle.iq_opening.specs.Steps.{visit, visit_map}
+use Rattle.iq_opening.specs.Walk.{Fault, fault, reach_fault, fault_at, walked}
 
 -- an address that may not be reached is the fault
 pub visit_unreachable : (all : List (List ℕ)) (reached : List Bool) (holder at kind : ℕ) (f : Fault) → length reached ≡ length all

@@ -1,5 +1,5 @@
 -- How lists of steps begin and go on.
-use Rattle.std.specs.Prelude.{◌≡◌, ◌≢◌, ℕ, suc, ◌+◌, ◌-◌, ◌*◌, ◌/◌, ◌<◌, ◌≤◌, min, Bool, true, false, List, [], ◌∷◌, ◌++◌, length, take, drop, map, flat_map, slice_index, get_or, nat_eq, nat_le}
+use Rattle.std.specs.Prelude.{◌≡◌, ◌≢◌, ℕ, suc, ◌+◌, ◌-◌, ◌*◌, ◌<◌, ◌≤◌, min, false, List, [], ◌∷◌, ◌++◌, length, take, drop, flat_map, slice_index, get_or, nat_eq, nat_le}
 use Rattle.std.proofs.Common.{refl, sym, ap, ◌∙◌, arith, append-nil, append_assoc, add-one}
 use Rattle.std.proofs.Math.Seq.{drop-cons}
 use Rattle.std.proofs.lemmas.List.{drop_all}
@@ -13,7 +13,7 @@ use Rattle.iq_block_map.specs.Objects.{leaf_count}
 use Rattle.iq_base.specs.declared.descriptors.ColumnPart.{ColumnPart}
 use Rattle.iq_base.specs.declared.descriptors.IndexPart.{IndexPart}
 use Rattle.iq_base.specs.declared.descriptors.Descriptor.{Descriptor}
-use Rattle.iq_opening.specs.Steps.{Step, visit, visit_map, named, page_steps, leaf_steps, leaves_steps, high_steps, object_steps, object_from, column_steps, columns_steps, index_steps, indexes_steps, objects_steps, other_steps, block_steps}
+use Rattle.iq_opening.specs.Steps.{visit, visit_map, named, page_steps, leaf_steps, leaves_steps, high_steps, object_steps, object_from, column_steps, columns_steps, index_steps, indexes_steps, objects_steps, other_steps, block_steps}
 use Rattle.iq_opening.specs.Tables.{more_of, blocks_at, head_page, other_page, pages_at}
 
 pub leaf_begins : (all : List (List ℕ)) (holder at used : ℕ) (ps named : List ℕ) → ps ≡ places (block_of all at) → named ≡ take used ps

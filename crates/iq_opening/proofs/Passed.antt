@@ -1,21 +1,21 @@
 -- What is known of steps none of which is at fault.
-use Rattle.std.specs.Prelude.{◌≡◌, ◌≢◌, ◌⊎◌, ℕ, ◌<◌, ◌≤◌, ◌-◌, min, Bool, true, false, ◌&&◌, not, List, [], ◌∷◌, ◌++◌, length, take, drop, map, get_or, set, nat_eq, nat_le, nat_lt, slice_index, slice_index_or, slice_set, Option, Some, None, Result, Ok, Err}
+use Rattle.std.specs.Prelude.{◌≡◌, ◌≢◌, ℕ, ◌<◌, ◌≤◌, ◌-◌, min, Bool, true, false, List, [], ◌∷◌, ◌++◌, length, nat_eq, slice_index_or, slice_set, Option, Some, None, Result, Ok}
 use Rattle.std.specs.List.{All, list_all}
 use Rattle.std.proofs.Common.{refl, sym, ap, ◌∙◌, inl, inr, arith, length-set, append-nil}
 use Rattle.std.proofs.lemmas.List.{get_or-set_other, get_or-set_same, get_or_past}
-use Rattle.std.proofs.lemmas.Bool.{and_parts, ltb-true, eqb-true, cases_eq, cases_lt}
+use Rattle.std.proofs.lemmas.Bool.{and_parts, ltb-true, cases_eq, cases_lt}
 use Rattle.iq_outside.specs.Devices.{block_of}
 use Rattle.iq_block_store.specs.Frames.{map_kind, page_kind, has_header, number_at}
 use Rattle.iq_base.specs.declared.refs.Ref.{Ref}
-use Rattle.iq_block_map.specs.Maps.{is_address, places}
+use Rattle.iq_block_map.specs.Maps.{is_address}
 use Rattle.iq_block_map.specs.Objects.{leaf_count, map_at, listed, blocks_of}
 use Rattle.iq_block_map.proofs.FrameLaws.{all_cons, all_both}
 use Rattle.iq_block_map.proofs.TopLemmas.{leaves_one, leaves_none, leaves_many, top_none, top_one}
 use Rattle.iq_opening.proofs.Parts.{low_object, high_object}
 use Rattle.iq_opening.specs.declared.faults.StoreCause.{StoreCause}
-use Rattle.iq_opening.specs.declared.faults.StoreCause.TheVariants.{OutOfRange, Shared, BadHeader, BadMap}
-use Rattle.iq_opening.specs.Steps.{Step, visit, visit_map, table, page_steps, leaf_steps, leaves_steps, high_steps, object_steps, named}
-use Rattle.iq_opening.specs.Walk.{Fault, fault, unless, first_of, is_reached, reach_fault, is_map_of, is_spare_zero, fault_at, reached_after, unless_fault, walked}
+use Rattle.iq_opening.specs.declared.faults.StoreCause.TheVariants.{OutOfRange, BadHeader, BadMap}
+use Rattle.iq_opening.specs.Steps.{Step, visit, visit_map, page_steps, leaf_steps, leaves_steps, high_steps, object_steps, named}
+use Rattle.iq_opening.specs.Walk.{Fault, unless, first_of, is_reached, reach_fault, is_map_of, is_spare_zero, fault_at, reached_after, unless_fault, walked}
 
 -- both parts of a way without a fault
 pub record Split (all : List (List ℕ)) (before after : List Bool) (xs ys : List Step) : Type 0 where

@@ -1,23 +1,18 @@
 -- Steps in two lists of blocks that are the same where the steps of one lead.
-use Rattle.std.specs.Prelude.{◌≡◌, ◌≢◌, ℕ, suc, ◌+◌, ◌*◌, ◌/◌, ◌-◌, ◌<◌, ◌≤◌, min, Bool, true, false, List, [], ◌∷◌, ◌++◌, length, take, drop, map, flat_map, get_or, nat_eq, nat_le, slice_index, slice_index_or, slice_set, if◌then◌else◌, Option, Some, None, Result, Ok, Err}
-use Rattle.std.specs.List.{All}
+use Rattle.std.specs.Prelude.{◌≡◌, ◌≢◌, ℕ, suc, ◌-◌, ◌<◌, ◌≤◌, min, Bool, true, false, List, [], ◌∷◌, ◌++◌, length, take, nat_eq, nat_le, slice_index, slice_index_or, slice_set, if◌then◌else◌, None, Ok}
 use Rattle.std.proofs.Common.{refl, sym, ap, ◌∙◌, inl, inr, arith, length-set}
 use Rattle.std.proofs.lemmas.Bool.{cases_eq, cases_lt}
 use Rattle.iq_outside.specs.Devices.{block_of}
-use Rattle.iq_block_store.specs.Frames.{page_kind, descriptor_kind, has_header}
 use Rattle.iq_base.specs.declared.refs.Ref.{Ref}
-use Rattle.iq_base.specs.declared.descriptors.ColumnPart.{ColumnPart}
-use Rattle.iq_base.specs.declared.descriptors.IndexPart.{IndexPart}
-use Rattle.iq_base.specs.declared.descriptors.Descriptor.{Descriptor}
 use Rattle.iq_block_map.specs.Maps.{places}
 use Rattle.iq_block_map.specs.Objects.{leaf_count}
-use Rattle.iq_block_map.specs.Laws.{SameOn, SameObject}
+use Rattle.iq_block_map.specs.Laws.{SameObject}
 use Rattle.iq_block_map.proofs.FrameLaws.{frame_law}
-use Rattle.iq_opening.specs.Steps.{Step, visit, visit_map, named, page_steps, leaf_steps, leaves_steps, high_steps, object_steps, object_from}
-use Rattle.iq_opening.specs.Walk.{Fault, is_reached, is_map_of, is_spare_zero, fault_at, reached_after, walked}
+use Rattle.iq_opening.specs.Steps.{Step, visit, visit_map, named, page_steps, leaf_steps, leaves_steps, high_steps, object_steps}
+use Rattle.iq_opening.specs.Walk.{fault_at, walked}
 use Rattle.iq_opening.specs.Laws.{SameWhere}
 use Rattle.iq_opening.proofs.Parts.{no_object, low_object, high_object}
-use Rattle.iq_opening.proofs.Passed.{Split, split, step_passed, step_passes, stays, size_after, size_walked, Visited, VisitPassed, visit_passed, MapPassed, map_passed, LeafPassed, leaf_passed, LeavesPassed, leaves_passed, ObjectPassed, object_passed}
+use Rattle.iq_opening.proofs.Passed.{step_passed, step_passes, stays, VisitPassed, visit_passed, MapPassed, map_passed, LeafPassed, leaf_passed, LeavesPassed, leaves_passed, ObjectPassed, object_passed}
 
 -- no step tests a descriptor
 abbrev pub OnlyVisits : List Step → Type 0

@@ -1,6 +1,6 @@
 -- Tables stand on what they reach.
-use Rattle.std.specs.Prelude.{◌≡◌, ◌≢◌, ℕ, suc, ◌+◌, ◌*◌, ◌/◌, ◌<◌, ◌≤◌, Bool, true, false, ◌&&◌, List, [], ◌∷◌, ◌++◌, length, flat_map, nat_eq, slice_index, slice_set, if◌then◌else◌, Option, Some, None, Result, Ok, Err}
-use Rattle.std.proofs.Common.{refl, sym, ap, ap₂, ◌∙◌, inl, inr, arith, length-set}
+use Rattle.std.specs.Prelude.{◌≡◌, ◌≢◌, ℕ, ◌+◌, ◌*◌, ◌/◌, ◌≤◌, Bool, true, false, List, [], ◌∷◌, ◌++◌, length, flat_map, nat_eq, slice_index, slice_set, if◌then◌else◌, None, Ok}
+use Rattle.std.proofs.Common.{refl, sym, ap, ap₂, ◌∙◌, inl, inr, length-set}
 use Rattle.std.proofs.lemmas.Bool.{and_parts, cases_eq}
 use Rattle.iq_outside.specs.Devices.{block_of}
 use Rattle.iq_block_store.specs.Frames.{descriptor_kind, payload_of}
@@ -11,12 +11,12 @@ use Rattle.iq_base.specs.declared.descriptors.Descriptor.{Descriptor}
 use Rattle.iq_catalog.specs.Storable.{are_columns, are_indexes, IsStorable}
 use Rattle.iq_block_map.specs.Laws.{SameObject}
 use Rattle.iq_opening.specs.declared.faults.StoreCause.TheVariants.{BadCatalog}
-use Rattle.iq_opening.specs.Tables.{Format, more_of, blocks_at, head_page, other_page, pages_at, said_by, table_at, may_be_stored, is_descriptor, may_stand, is_table}
+use Rattle.iq_opening.specs.Tables.{Format, more_of, blocks_at, head_page, other_page, pages_at, said_by, table_at, is_descriptor, may_stand, is_table}
 use Rattle.iq_opening.specs.Steps.{Step, visit, table, object_from, column_steps, columns_steps, index_steps, indexes_steps, objects_steps, other_steps, block_steps, table_steps, tables_steps}
-use Rattle.iq_opening.specs.Walk.{Fault, unless, is_reached, fault_at, walked}
-use Rattle.iq_opening.specs.Laws.{SameWhere, OfColumn, OfColumns, OfIndex, OfIndexes, OfObjects, SameTables, SameReach}
+use Rattle.iq_opening.specs.Walk.{unless, fault_at, walked}
+use Rattle.iq_opening.specs.Laws.{SameWhere, OfColumn, OfColumns, OfIndex, OfIndexes, OfObjects, SameReach}
 use Rattle.iq_opening.proofs.Ways.{walked_on}
-use Rattle.iq_opening.proofs.Parts.{no_other, some_other, no_other_page, some_other_page}
+use Rattle.iq_opening.proofs.Parts.{some_other, no_other_page, some_other_page}
 use Rattle.iq_opening.proofs.Refs.{few_pages, ColumnRefs, column_refs, IndexRefs, index_refs}
 use Rattle.iq_opening.proofs.Stored.{storable_of}
 use Rattle.iq_opening.proofs.Passed.{Split, split, step_passed, step_passes, unless_none, size_walked, VisitPassed, visit_passed}

@@ -1,14 +1,13 @@
 -- Descriptors that may be stored, as a test and as a record.
-use Rattle.std.specs.Prelude.{◌≡◌, ◌≢◌, ℕ, ◌≤◌, Bool, true, false, ◌&&◌, List, [], ◌∷◌, length, drop, nat_eq, nat_le, Option, Some, None}
+use Rattle.std.specs.Prelude.{◌≡◌, ℕ, Bool, true, false, List, length, nat_eq}
 use Rattle.std.specs.Cmp.Lexicographic.{pointwise, same_text, other_text}
-use Rattle.std.proofs.Common.{refl, sym, ap, ◌∙◌}
+use Rattle.std.proofs.Common.{refl, sym, ap}
 use Rattle.std.proofs.lemmas.Bool.{and_parts, leb-true, le-leb}
 use Rattle.iq_base.specs.declared.descriptors.Descriptor.{Descriptor}
 use Rattle.iq_catalog.specs.Pages.{joined, descriptor_bytes, HasPages}
-use Rattle.iq_catalog.specs.Reading.{descriptor_of}
 use Rattle.iq_catalog.specs.Storable.{slot_limit, IsStorable}
 use Rattle.iq_catalog.proofs.Wholes.{bytes_back}
-use Rattle.iq_opening.specs.Tables.{Format, coded, said_by, may_be_stored, is_descriptor, may_stand, is_table}
+use Rattle.iq_opening.specs.Tables.{Format, said_by, may_be_stored, is_descriptor, may_stand, is_table}
 
 pub test_of : (t : Descriptor) → IsStorable t → may_be_stored t ≡ true
 unfolding may_be_stored

@@ -1,8 +1,7 @@
 -- Steps made one after the other.
-use Rattle.std.specs.Prelude.{◌≡◌, ℕ, ◌≤◌, Bool, List, [], ◌∷◌, ◌++◌, length, Option, Some, None, Result, Ok, Err, IsErrAnd, IfErr, OnOk}
+use Rattle.std.specs.Prelude.{◌≡◌, ℕ, ◌≤◌, Bool, List, [], ◌∷◌, ◌++◌, Option, Some, None, Result, Ok, Err, IsErrAnd, IfErr, OnOk}
 use Rattle.std.proofs.Common.{refl, sym, ap, subst, ◌∙◌, arith, append-nil}
 use Rattle.iq_outside.specs.declared.device.Device.{Ghosts}
-use Rattle.iq_block_store.specs.Looks.{HasLooked}
 use Rattle.iq_block_map.proofs.PutLemmas.{looked_same, looked_then}
 use Rattle.iq_opening.specs.declared.faults.OpenFault.{OpenFault}
 use Rattle.iq_opening.specs.declared.faults.OpenFault.TheVariants.{StoreFault, NotAStore, NoMemory}

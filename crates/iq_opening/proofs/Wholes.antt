@@ -1,5 +1,5 @@
 -- Tables whole, and what a root names.
-use Rattle.std.specs.Prelude.{◌≡◌, ◌≢◌, ℕ, suc, ◌+◌, ◌<◌, ◌≤◌, Bool, true, false, ◌&&◌, List, [], ◌∷◌, ◌++◌, length, take, drop, map, replicate, slice_index, nat_eq, nat_le, Option, Some, None, Result, Ok, Err}
+use Rattle.std.specs.Prelude.{◌≡◌, ◌≢◌, ℕ, ◌+◌, ◌<◌, ◌≤◌, Bool, true, false, List, [], ◌∷◌, ◌++◌, length, take, drop, replicate, slice_index, nat_eq, nat_le, Result, Err}
 use Rattle.std.proofs.Common.{refl, sym, ap, ◌∙◌, arith, add-one}
 use Rattle.std.proofs.Math.Seq.{drop-cons}
 use Rattle.std.proofs.lemmas.List.{drop_all, take_more, take_all, length-replicate}
@@ -14,10 +14,10 @@ use Rattle.iq_root.specs.declared.root.Root.{Root}
 use Rattle.iq_opening.specs.declared.faults.OpenFault.TheVariants.{NotAStore}
 use Rattle.iq_opening.specs.declared.faults.StoreCause.TheVariants.{OldFormat, Size, BadCatalog}
 use Rattle.iq_opening.specs.declared.opening.StoredTable.{StoredTable}
-use Rattle.iq_opening.specs.Tables.{Format, coded, more_of, blocks_at, pages_at, said_by, table_at, is_table}
-use Rattle.iq_opening.specs.Steps.{Step, table, block_steps, objects_steps, table_steps, tables_steps}
+use Rattle.iq_opening.specs.Tables.{coded, more_of, blocks_at, pages_at, said_by, table_at, is_table}
+use Rattle.iq_opening.specs.Steps.{table, block_steps, objects_steps, table_steps, tables_steps}
 use Rattle.iq_opening.specs.Walk.{Fault, fault, fault_at, walked}
-use Rattle.iq_opening.specs.Opening.{body_of, none_reached, is_size, root_opened, stored_at, tables_at}
+use Rattle.iq_opening.specs.Opening.{body_of, none_reached, root_opened, stored_at, tables_at}
 use Rattle.iq_opening.specs.Calls.{Goes, Stops}
 
 pub table_begins : (all : List (List ℕ)) (body : ℕ) (before : List ℕ) (head : ℕ)

@@ -1,6 +1,5 @@
 -- What a store's tables stand on.
-use Rattle.std.specs.Prelude.{◌≡◌, ℕ, Bool, true, List, [], ◌∷◌, ◌++◌, length, flat_map, Result, Ok}
-use Rattle.std.specs.List.{All}
+use Rattle.std.specs.Prelude.{◌≡◌, ℕ, Bool, true, List, [], ◌∷◌, length, Ok}
 use Rattle.iq_outside.specs.Devices.{block_of}
 use Rattle.iq_base.specs.declared.refs.Ref.{Ref}
 use Rattle.iq_base.specs.declared.descriptors.ColumnPart.{ColumnPart}

@@ -1,9 +1,7 @@
 -- How a store opens: its newest root, and the way through what that root names; or the first fault.
-use Rattle.std.specs.Prelude.{◌≡◌, ℕ, ◌%◌, Bool, true, false, ◌&&◌, List, [], ◌∷◌, ◌++◌, length, map, drop, not, replicate, nat_eq, nat_le, if◌then◌else◌, Option, Some, None, Result, Ok, Err}
+use Rattle.std.specs.Prelude.{◌≡◌, ℕ, ◌%◌, Bool, false, ◌&&◌, List, [], length, map, replicate, nat_eq, nat_le, if◌then◌else◌, Option, Some, None, Result, Ok, Err}
 use Rattle.iq_root.specs.Roots.{newest, body_place}
 use Rattle.iq_root.specs.declared.root.Root.{Root}
-use Rattle.iq_base.specs.declared.descriptors.Descriptor.{Descriptor}
-use Rattle.iq_opening.specs.declared.faults.StoreCause.{StoreCause}
 use Rattle.iq_opening.specs.declared.faults.StoreCause.TheVariants.{NoRoot, OldFormat, Size}
 use Rattle.iq_opening.specs.declared.opening.StoredTable.{StoredTable}
 use Rattle.iq_opening.specs.declared.opening.Opening.{Opening}

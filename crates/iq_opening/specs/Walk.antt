@@ -1,6 +1,6 @@
 -- Which step of the way through a store is the first at fault. The blocks that earlier steps reached are kept as a set: a bit for each
 -- block of the store.
-use Rattle.std.specs.Prelude.{ℕ, Bool, true, false, List, [], ◌∷◌, length, drop, nat_eq, ◌&&◌, not, if◌then◌else◌, slice_index_or, slice_set, Option, Some, None, Result, Ok, Err}
+use Rattle.std.specs.Prelude.{ℕ, Bool, true, false, List, [], ◌∷◌, length, drop, nat_eq, ◌&&◌, not, slice_index_or, slice_set, Option, Some, None, Result, Ok, Err}
 use Rattle.std.specs.List.{list_all}
 use Rattle.iq_outside.specs.Devices.{block_of}
 use Rattle.iq_block_store.specs.Frames.{number_at, map_kind, has_header}

@@ -1,9 +1,8 @@
 //! The blocks of a descriptor.
-ghost use Rattle.std.specs.Prelude.{◌≡◌, ◌≤◌, ◌++◌, ◌∷◌, ℕ, Bool, List, length, IfOk, IfErr, OnOk};
-ghost use Rattle.iq_outside.specs.Devices.{block_of};
+ghost use Rattle.std.specs.Prelude.{◌≡◌, ◌++◌, IfOk, IfErr, OnOk};
 ghost use Rattle.iq_block_store.specs.Frames.{payload_of};
 ghost use Rattle.iq_block_map.specs.Refs.{WhereTold};
-ghost use Rattle.iq_opening.specs.Tables.{head_page, other_page, blocks_at, pages_at, are_packed};
+ghost use Rattle.iq_opening.specs.Tables.{head_page, other_page, blocks_at, pages_at};
 ghost use Rattle.iq_opening.specs.Steps.{block_steps, other_steps};
 ghost use Rattle.iq_opening.specs.Calls.{Goes, Stops, HasBits};
 

@@ -1,7 +1,6 @@
 //! The objects of a table: maps, each before what it names, and pages.
 ghost use Rattle.std.specs.Prelude.{◌≡◌, ◌≤◌, ◌<◌, ◌+◌, ◌*◌, true, length, IfErr, OnOk};
 ghost use Rattle.iq_base.specs.declared.descriptors.Descriptor.{Descriptor};
-ghost use Rattle.iq_block_map.specs.Refs.{WhereTold};
 ghost use Rattle.iq_opening.specs.Steps.{leaf_steps, high_steps, object_steps, object_from, column_steps, columns_steps, index_steps, indexes_steps, objects_steps};
 ghost use Rattle.iq_opening.specs.Calls.{Goes, Stops, HasBits};
 ghost use Rattle.iq_catalog.specs.Storable.{IsStorable, are_columns, are_indexes};
@@ -213,5 +212,11 @@ pub fn reach_objects<D: Device>(
     reach_from(disk, reached, blocks, 49, table.existence)?;
     let columns = table.columns.as_slice();
     reach_columns(disk, reached, blocks, columns)?;
-    reach_indexes(disk, reached, blocks, columns.len(), table.indexes.as_slice())
+    reach_indexes(
+        disk,
+        reached,
+        blocks,
+        columns.len(),
+        table.indexes.as_slice(),
+    )
 }

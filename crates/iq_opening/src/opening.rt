@@ -105,9 +105,9 @@ fn reach_root<D: Device>(
     ensures count { IfOk result (λ found. length found.1 ≡ count) }
     ensures ok { IfOk result (λ found. WhereTold (D.blocks disk.old)
         (λ all. walked all (none_reached count)
-            (tables_steps all coded body [] root.now.tables) ≡ Ok found.1)) }
+        (tables_steps all coded body [] root.now.tables) ≡ Ok found.1)) }
     ensures cause { IfErr result (λ e. IsOpenFault (λ all. walked all (none_reached count)
-            (tables_steps all coded body [] root.now.tables)) e
+        (tables_steps all coded body [] root.now.tables)) e
         (D.blocks disk.old) (D.faults disk.old) (D.faults disk.new)) }
 {
     let mut reached = Bitmap::empty(alloc, count)?;

@@ -1,13 +1,12 @@
 //! One step of the way through a store: an address, and the block to which it leads.
-ghost use Rattle.std.specs.Prelude.{◌≡◌, ◌≤◌, ◌<◌, ℕ, Bool, [], ◌∷◌, List, Some, None, length, slice_set, true, IfOk, IfErr, OnOk, ◌^◌};
+ghost use Rattle.std.specs.Prelude.{◌≡◌, ◌≤◌, ◌<◌, [], ◌∷◌, None, length, true, IfOk, IfErr, OnOk};
 ghost use Rattle.std.specs.Prelude.{nat_eq};
 ghost use Rattle.std.specs.List.{list_all};
 ghost use Rattle.iq_outside.specs.Devices.{block_of};
-ghost use Rattle.iq_block_store.specs.Looks.{HasLooked};
 ghost use Rattle.iq_block_map.specs.Refs.{WhereTold};
-ghost use Rattle.iq_block_map.specs.Maps.{places, is_address};
+ghost use Rattle.iq_block_map.specs.Maps.{places};
 ghost use Rattle.iq_opening.specs.Steps.{Step};
-ghost use Rattle.iq_opening.specs.Walk.{reach_fault, is_spare_zero};
+ghost use Rattle.iq_opening.specs.Walk.{reach_fault};
 ghost use Rattle.iq_opening.specs.Calls.{Goes, Stops, HasBits, IsUnreachable};
 
 use crate::faults::bad;

@@ -1,5 +1,5 @@
 //! The tables that a root names, one after the other.
-ghost use Rattle.std.specs.Prelude.{◌≡◌, ◌≤◌, ◌++◌, [], ◌∷◌, ℕ, Bool, List, Some, None, true, false, length, IfOk, IfErr, OnOk, IfSome, option_map};
+ghost use Rattle.std.specs.Prelude.{◌≡◌, [], Some, None, true, false, IfOk, IfErr, OnOk, IfSome};
 ghost use Rattle.iq_block_map.specs.Refs.{WhereTold};
 ghost use Rattle.iq_base.specs.declared.descriptors.Descriptor.{Descriptor};
 ghost use Rattle.iq_catalog.specs.Storable.{IsStorable};
@@ -8,13 +8,11 @@ ghost use Rattle.iq_opening.specs.Steps.{table_steps, tables_steps};
 ghost use Rattle.iq_opening.specs.Opening.{tables_at};
 ghost use Rattle.iq_opening.specs.Calls.{Goes, Stops, HasBits};
 
-use crate::OpenFault;
-use crate::StoreCause;
-use crate::StoredTable;
 use crate::descriptors::{Found, reach_descriptor};
 use crate::faults::bad;
 use crate::objects::reach_objects;
 use crate::reaching::is_zero;
+use crate::{OpenFault, StoreCause, StoredTable};
 use iq_base::{Descriptor, Listed, Name, NoMemory, Page};
 use iq_bitmap::Bitmap;
 use iq_catalog::{CatalogFault, fits_slots, get};
@@ -95,7 +93,13 @@ fn reach_table<D: Device>(
         (λ all. table_steps all coded body before.now head) disk.old disk.new reached.old) }
 {
     let found = reach_descriptor(alloc, disk, reached, body, head)?;
-    let Some(table) = table_of(alloc, before, found.block_numbers.split_at(1).1, &found.pages)? else {
+    let Some(table) = table_of(
+        alloc,
+        before,
+        found.block_numbers.split_at(1).1,
+        &found.pages,
+    )?
+    else {
         return Err(bad(head, StoreCause::BadCatalog));
     };
     reach_objects(disk, reached, &found.block_numbers, &table)?;

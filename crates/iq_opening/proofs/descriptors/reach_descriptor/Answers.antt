@@ -1,8 +1,8 @@
-use Rattle.std.proofs.Common.{refl, sym, ap, ◌∙◌, ◌++◌, [], ◌∷◌, List, ℕ, append-nil, flat_map}
+use Rattle.std.proofs.Common.{refl, ◌++◌, [], ◌∷◌, append-nil, flat_map}
 use Rattle.iq_outside.specs.Devices.{block_of}
 use Rattle.iq_block_store.specs.Frames.{descriptor_kind}
 use Rattle.iq_opening.specs.Tables.{more_of}
-use Rattle.iq_opening.specs.Steps.{Step, visit, other_steps, block_steps}
+use Rattle.iq_opening.specs.Steps.{visit, other_steps, block_steps}
 use Rattle.iq_opening.proofs.Ways.{err_exit, lead_start, lead_on, lead_last, lead_stop}
 use Rattle.iq_opening.proofs.Parts.{blocks_begin, more_are}
 use Rattle.iq_opening.proofs.descriptors.reach_descriptor.Goals as goal

@@ -1,8 +1,8 @@
-use Rattle.std.proofs.Common.{refl, sym, ap, ◌∙◌, ◌++◌, [], ◌∷◌, List, ℕ, append-nil}
-use Rattle.iq_block_store.specs.Frames.{descriptor_kind, payload_of}
-use Rattle.iq_opening.specs.Steps.{Step, visit, other_steps}
+use Rattle.std.proofs.Common.{[], ◌∷◌}
+use Rattle.iq_block_store.specs.Frames.{descriptor_kind}
+use Rattle.iq_opening.specs.Steps.{visit, other_steps}
 use Rattle.iq_opening.proofs.Ways.{err_exit, lead_start, lead_end, lead_last, lead_stop}
-use Rattle.iq_opening.proofs.Parts.{no_other, some_other, no_other_page, some_other_page}
+use Rattle.iq_opening.proofs.Parts.{no_other, some_other}
 use Rattle.iq_opening.proofs.descriptors.reach_other.Goals as goal
 
 pub returns-then-at-eq0-clause-ok : goal.returns-then-at-eq0-clause-ok

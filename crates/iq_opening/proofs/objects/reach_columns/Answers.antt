@@ -1,4 +1,4 @@
-use Rattle.std.proofs.Common.{refl, arith, ap, ◌+◌, ◌*◌}
+use Rattle.std.proofs.Common.{arith}
 use Rattle.iq_opening.specs.Steps.{column_steps, columns_steps}
 use Rattle.iq_opening.proofs.Ways.{err_exit, lead_on, lead_end, lead_stop}
 use Rattle.iq_opening.proofs.Parts.{columns_go_on, columns_end}

@@ -1,5 +1,5 @@
-use Rattle.std.proofs.Common.{refl, arith, ◌≡◌, ℕ, List, [], ◌∷◌, drop, take, slice_index}
-use Rattle.iq_opening.specs.Steps.{Step, visit_map, named, high_steps, leaves_steps, leaf_steps}
+use Rattle.std.proofs.Common.{refl, [], ◌∷◌}
+use Rattle.iq_opening.specs.Steps.{visit_map, named, high_steps, leaves_steps, leaf_steps}
 use Rattle.iq_block_map.specs.Objects.{leaf_count}
 use Rattle.iq_opening.proofs.Ways.{err_exit, lead_start, lead_on, lead_end, lead_stop}
 use Rattle.iq_opening.proofs.Parts.{high_first, high_begins, leaves_go_on, leaves_end}

@@ -1,6 +1,6 @@
-use Rattle.std.proofs.Common.{refl, arith, ◌≡◌, ℕ, List, [], ◌∷◌, drop, take, slice_index}
+use Rattle.std.proofs.Common.{[], ◌∷◌}
 use Rattle.iq_block_store.specs.Frames.{page_kind}
-use Rattle.iq_opening.specs.Steps.{Step, visit, visit_map, named, leaf_steps, page_steps}
+use Rattle.iq_opening.specs.Steps.{visit, visit_map, named, leaf_steps, page_steps}
 use Rattle.iq_opening.proofs.Ways.{err_exit, lead_start, lead_on, lead_end, lead_stop}
 use Rattle.iq_opening.proofs.Parts.{leaf_first, leaf_begins, pages_go_on, pages_end}
 use Rattle.iq_opening.proofs.objects.reach_leaf.Goals as goal

@@ -1,4 +1,4 @@
-use Rattle.std.proofs.Common.{sym, ap, ◌∙◌, arith, refl, [], ◌≤◌}
+use Rattle.std.proofs.Common.{◌∙◌, arith, []}
 use Rattle.iq_block_map.proofs.PutLemmas.{looked_then}
 use Rattle.iq_opening.specs.Tables.{coded}
 use Rattle.iq_opening.specs.Steps.{tables_steps}

@@ -1,4 +1,4 @@
-use Rattle.std.proofs.Common.{sym, ap, ◌∙◌, length, [], arith, refl}
+use Rattle.std.proofs.Common.{◌∙◌, [], arith, refl}
 use Rattle.iq_opening.specs.Tables.{coded}
 use Rattle.iq_opening.specs.Steps.{tables_steps}
 use Rattle.iq_opening.specs.Walk.{walked}

@@ -1,7 +1,6 @@
-use Rattle.std.proofs.Common.{refl, ap, ◌∙◌, sym, true, length, slice_set, length-set, ◌∷◌, []}
+use Rattle.std.proofs.Common.{ap, ◌∙◌, sym, true, length, length-set, ◌∷◌, []}
 use Rattle.iq_block_store.specs.Frames.{has_header}
-use Rattle.iq_opening.specs.Steps.{Step, visit}
-use Rattle.iq_opening.specs.Calls.{Stops}
+use Rattle.iq_opening.specs.Steps.{visit}
 use Rattle.iq_opening.proofs.Ways.{err_exit, stop_unreachable}
 use Rattle.iq_opening.proofs.OneStep.{visit_unreachable, visit_wrong, visit_right}
 use Rattle.iq_opening.proofs.reaching.reach.Goals as goal

@@ -1,7 +1,6 @@
-use Rattle.std.proofs.Common.{refl, ap, ◌∙◌, sym, true, length, slice_set, length-set, ◌∷◌, [], nat_eq}
+use Rattle.std.proofs.Common.{ap, ◌∙◌, sym, true, length, length-set, ◌∷◌, [], nat_eq}
 use Rattle.std.specs.List.{list_all}
-use Rattle.iq_opening.specs.Steps.{Step, visit_map}
-use Rattle.iq_opening.specs.Calls.{Stops}
+use Rattle.iq_opening.specs.Steps.{visit_map}
 use Rattle.iq_opening.proofs.Ways.{err_exit, stop_unreachable}
 use Rattle.iq_opening.proofs.OneStep.{map_unreachable, map_no_header, map_level_wrong, map_spare_wrong, map_right}
 use Rattle.iq_opening.proofs.reaching.reach_map.Goals as goal

@@ -1,4 +1,4 @@
-use Rattle.std.proofs.Common.{refl, sym, ap, ◌∙◌, ◌+◌, [], ◌∷◌, drop, slice_index}
+use Rattle.std.proofs.Common.{◌∙◌, ◌+◌, [], drop, slice_index}
 use Rattle.iq_opening.specs.Tables.{coded, table_at}
 use Rattle.iq_opening.specs.Steps.{table_steps, tables_steps}
 use Rattle.iq_opening.proofs.Ways.{err_exit, lead_on, lead_end, lead_stop}

@@ -11,7 +11,7 @@ returns-in-Err-BadCatalog-clause-none c =
 pub returns-then-may_stand-clause-some : goal.returns-then-may_stand-clause-some
 returns-then-may_stand-clause-some c = (
   table_pages coded c.args.before.now c.args.more.now c.in-Ok.table c.args.pages.now c.in-Ok.ensures.ok c.in-Ok.ensures.pages
-  ∙ (sym c.may_stand.ensures ∙ c.if-may_stand.true),
+      ∙ (sym c.may_stand.ensures ∙ c.if-may_stand.true),
   sym (said_back c.in-Ok.table c.args.pages.now c.in-Ok.ensures.ok c.in-Ok.ensures.pages),
   c.in-Ok.ensures.ok,
 )
