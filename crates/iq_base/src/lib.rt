@@ -23,7 +23,7 @@ mod values;
 pub use cells::{BadCell, cell_get, cell_put, is_of, width};
 pub use descriptors::{ColumnPart, Descriptor, IndexPart, IndexSpec};
 pub use letters::Letters;
-pub use limits::row_limit;
+pub use limits::{MOST_TABLES, row_limit, rows_within, text_length};
 pub use lists::Listed;
 pub use locks::Locks;
 pub use memory::NoMemory;

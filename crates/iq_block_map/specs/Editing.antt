@@ -1,4 +1,5 @@
 -- Objects that share what didn't change.
+use Rattle.iq_block_map.specs.declared.map_bytes.TheConstants.{ROOM}
 use Rattle.std.specs.Prelude.{◌≡◌, ◌≢◌, ◌⊎◌, ℕ, ◌+◌, ◌-◌, ◌*◌, ◌/◌, ◌<◌, ◌≤◌, true, false, List, [], ◌∷◌, ◌++◌, length, take, drop, nat_eq, if◌then◌else◌, slice_index, slice_set, Ok, Err, IsOk, Option, Some, Bool, suc, zero, nat_le, nat_lt, ◌||◌, ◌&&◌}
 use Rattle.std.specs.List.{All, fold, list_any}
 use Rattle.iq_base.specs.declared.refs.Ref.{Ref}
@@ -17,7 +18,7 @@ edited xs changed added = replaced_from 0 xs changed ++ added
 
 -- the pages of one leaf
 abbrev pub piece : ℕ → List ℕ → List ℕ
-piece k xs = take 252 (drop (252 * k) xs)
+piece k xs = take ROOM (drop (ROOM * k) xs)
 
 -- of two lists the items of the second that the first hasn't in the same place
 abbrev pub fresh : List ℕ → List ℕ → List ℕ
@@ -43,7 +44,7 @@ differing (suc n) xs ys = differing n xs ys + one_unless (same_list (piece n ys)
 
 -- how many maps an object with some pages needs beside those of the object that it is made of
 abbrev pub maps_needed : List ℕ → List ℕ → ℕ
-maps_needed xs ys = differing (leaf_count (length ys)) xs ys + one_unless (nat_le (length ys) 252 || same_list ys xs)
+maps_needed xs ys = differing (leaf_count (length ys)) xs ys + one_unless (nat_le (length ys) ROOM || same_list ys xs)
 
 -- page numbers that ascend, from a first one on and below an end
 abbrev pub AreChanges : ℕ → ℕ → List (ℕ × ℕ) → Type 0
@@ -73,11 +74,11 @@ pub record SharesMaps (old new : Ref) (xs ys before after ls ms : List ℕ) : Ty
 
 -- whether some changes are of pages that a leaf names
 abbrev pub touches : ℕ → List (ℕ × ℕ) → Bool
-touches k changed = list_any (λ (c : ℕ × ℕ). nat_eq (c.0 / 252) k) changed
+touches k changed = list_any (λ (c : ℕ × ℕ). nat_eq (c.0 / ROOM) k) changed
 
 -- whether an edit reads a leaf of so many pages: it changes a page of it, or adds one where the leaf isn't full
 abbrev pub is_touched : ℕ → List (ℕ × ℕ) → List ℕ → ℕ → Bool
-is_touched pages changed added k = touches k changed || (nat_lt 0 (length added) && nat_lt (used_in pages k) 252)
+is_touched pages changed added k = touches k changed || (nat_lt 0 (length added) && nat_lt (used_in pages k) ROOM)
 
 -- an object stands in a store that is told, apart from what may be taken
 pub record StandsApart (told : Option (List (List ℕ))) (object : Ref) (left : List ℕ) (all : List (List ℕ)) : Type 0 where
@@ -129,7 +130,7 @@ pub record NeedsMap (object : Ref) (changed : List (ℕ × ℕ)) (added : List �
   pub k : ℕ
   pub read : (j : ℕ) → j < length ls → j ≤ k → is_touched object.pages changed added j ≡ true
       → IsOk (map_at all 1 (used_in object.pages j) (slice_index ls j))
-  pub needs : ChangesLeaf object changed added all ls k ⊎ ((leaf_count object.pages ≤ k) × (252 < object.pages + length added))
+  pub needs : ChangesLeaf object changed added all ls k ⊎ ((leaf_count object.pages ≤ k) × (ROOM < object.pages + length added))
 
 -- too few blocks are left: none now, fewer were than any such edit may take, one is needed, and where all maps are right fewer were left than maps are needed
 pub record LacksMaps (told : Option (List (List ℕ))) (object : Ref) (changed : List (ℕ × ℕ)) (added before after : List ℕ) : Type 0 where

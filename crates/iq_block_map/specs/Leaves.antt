@@ -1,4 +1,5 @@
 -- Leaves and topmost maps, one at a time: what the calls between a remap and its blocks say of each.
+use Rattle.iq_block_map.specs.declared.map_bytes.TheConstants.{ROOM}
 use Rattle.std.specs.Prelude.{◌≡◌, ◌≢◌, ◌⊎◌, ℕ, ◌+◌, ◌-◌, ◌<◌, ◌≤◌, true, false, List, [], ◌∷◌, ◌++◌, length, take, drop, replicate, nat_eq, nat_lt, Bool, if◌then◌else◌, slice_index, slice_set, Result, Ok, Err, IsOk, Option, Some}
 use Rattle.std.specs.List.{All}
 use Rattle.iq_base.specs.declared.refs.Ref.{Ref}
@@ -89,7 +90,7 @@ HasLeaves all now ls ms xs ys before after = HasLeavesAt all now ls ms xs ys bef
 
 -- numbers behind which a map has zeros
 abbrev pub padded : List ℕ → List ℕ
-padded xs = xs ++ replicate (252 - length xs) 0
+padded xs = xs ++ replicate (ROOM - length xs) 0
 
 -- a leaf stayed, as its pages do
 pub record StaysLeaf (all now : List (List ℕ)) (at made : ℕ) (xs ys before after : List ℕ) : Type 0 where
@@ -110,15 +111,15 @@ EndsLeaf all now at made xs ys before after =
 
 -- the only leaf is the topmost map
 pub record OnlyLeaf (all now : List (List ℕ)) (ms : List ℕ) (pages root : ℕ) (before after : List ℕ) : Type 0 where
-  pub few : pages ≤ 252
+  pub few : pages ≤ ROOM
   pub is : root ≡ slice_index ms 0
   pub left : after ≡ before
   pub blocks : now ≡ all
 
 -- the topmost map stays, as the leaves do
 pub record SameTop (all now : List (List ℕ)) (old : Ref) (ls ms : List ℕ) (pages root : ℕ) (before after : List ℕ) : Type 0 where
-  pub many : 252 < pages
-  pub had : 252 < old.pages
+  pub many : ROOM < pages
+  pub had : ROOM < old.pages
   pub leaves : ms ≡ ls
   pub is : root ≡ old.root
   pub left : after ≡ before
@@ -126,8 +127,8 @@ pub record SameTop (all now : List (List ℕ)) (old : Ref) (ls ms : List ℕ) (p
 
 -- the topmost map is written, as there was none or the leaves changed
 pub record NewTop (all now : List (List ℕ)) (old : Ref) (ls ms : List ℕ) (pages root : ℕ) (before after : List ℕ) : Type 0 where
-  pub many : 252 < pages
-  pub leaves : 252 < old.pages → ms ≢ ls
+  pub many : ROOM < pages
+  pub leaves : ROOM < old.pages → ms ≢ ls
   pub left : before ≡ root ∷ after
   pub blocks : now ≡ slice_set all root (map_block 2 root ms)
 
@@ -137,7 +138,7 @@ EndsTop all now old ls ms pages root before after =
 
 -- no block is left for a topmost map that must be written
 abbrev pub LacksTop : Ref → ℕ → List ℕ → List ℕ → List ℕ → List ℕ → Type 0
-LacksTop old pages ls ms before after = (before ≡ []) × (after ≡ []) × (252 < pages) × (252 < old.pages → ms ≢ ls)
+LacksTop old pages ls ms before after = (before ≡ []) × (after ≡ []) × (ROOM < pages) × (ROOM < old.pages → ms ≢ ls)
 
 -- what making one leaf, all leaves, and the topmost map does where the device tells its blocks
 abbrev pub RewritesLeaf : Option (List (List ℕ)) → Option (List (List ℕ)) → ℕ → ℕ → ℕ → List (ℕ × ℕ) → List ℕ → List ℕ → List ℕ → ℕ → Type 0

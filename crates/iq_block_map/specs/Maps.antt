@@ -1,4 +1,5 @@
 -- The bytes of a map: 252 numbers of 4 bytes behind its header. Those in use name blocks of the store, the others are zero.
+use Rattle.iq_block_map.specs.declared.map_bytes.TheConstants.{ROOM}
 use Rattle.std.specs.Prelude.{◌≡◌, ℕ, Bool, true, ◌&&◌, List, take, drop, nat_eq, nat_lt, nat_le}
 use Rattle.std.specs.List.{list_all, flat_map}
 use Rattle.iq_outside.specs.Devices.{block_of}
@@ -7,7 +8,7 @@ use Rattle.iq_block_store.specs.Frames.{number_at, numbers_at, bytes_of, map_kin
 
 -- the numbers of a map
 unfoldable pub places : List ℕ → List ℕ
-places block = numbers_at block 16 252
+places block = numbers_at block 16 ROOM
 
 -- the number of a block that may be a map or a page: one behind the roots, in a store of so many blocks
 abbrev pub is_address : ℕ → ℕ → Bool

@@ -1,5 +1,6 @@
 -- The pages of an object. Up to 252 pages are named by one map of level 1, its leaf; more by leaves that a map of level 2 names,
 -- each full but the last.
+use Rattle.iq_block_map.specs.declared.map_bytes.TheConstants.{ROOM}
 use Rattle.std.specs.Prelude.{◌≡◌, ℕ, ◌+◌, ◌-◌, ◌*◌, ◌/◌, ◌%◌, min, Bool, true, false, ◌&&◌, List, [], ◌∷◌, ◌++◌, length, take, map, nat_eq, nat_lt, nat_le, if◌then◌else◌, slice_index, Result, Ok, Err, Option, Some, None}
 use Rattle.std.specs.List.{list_all}
 use Rattle.iq_outside.specs.Devices.{block_of}
@@ -9,11 +10,11 @@ use Rattle.iq_block_map.specs.Maps.{places, is_map}
 
 -- how many leaves so many pages take
 abbrev pub leaf_count : ℕ → ℕ
-leaf_count pages = (pages + 251) / 252
+leaf_count pages = (pages + 251) / ROOM
 
 -- how many pages a leaf names, of so many
 abbrev pub used_in : ℕ → ℕ → ℕ
-used_in pages k = min 252 (pages - 252 * k)
+used_in pages k = min ROOM (pages - ROOM * k)
 
 -- what a map names, or its block where it isn't right
 abbrev pub map_at : List (List ℕ) → ℕ → ℕ → ℕ → Result (List ℕ) ℕ
@@ -24,7 +25,7 @@ map_at all level used at =
 abbrev pub leaves_of : List (List ℕ) → Ref → Result (List ℕ) ℕ
 leaves_of all object =
     if nat_eq object.pages 0 then Ok []
-    else (if nat_le object.pages 252 then Ok (object.root ∷ []) else map_at all 2 (leaf_count object.pages) object.root)
+    else (if nat_le object.pages ROOM then Ok (object.root ∷ []) else map_at all 2 (leaf_count object.pages) object.root)
 
 -- two lists, one after the other, or the first fault
 abbrev pub joined : Result (List ℕ) ℕ → Result (List ℕ) ℕ → Result (List ℕ) ℕ
@@ -40,7 +41,7 @@ front maps at = if maps then at ∷ [] else []
 abbrev pub listed : Bool → List (List ℕ) → ℕ → List ℕ → Result (List ℕ) ℕ
 listed maps all pages [] = Ok []
 listed maps all pages (leaf ∷ leaves) =
-    joined (joined (Ok (front maps leaf)) (map_at all 1 (min 252 pages) leaf)) (listed maps all (pages - 252) leaves)
+    joined (joined (Ok (front maps leaf)) (map_at all 1 (min ROOM pages) leaf)) (listed maps all (pages - ROOM) leaves)
 
 abbrev pub listed_in : Bool → List (List ℕ) → ℕ → Result (List ℕ) ℕ → Result (List ℕ) ℕ
 listed_in maps all pages (Err b) = Err b
@@ -48,7 +49,7 @@ listed_in maps all pages (Ok leaves) = listed maps all pages leaves
 
 -- the map above the leaves, where maps are wanted and there is one
 abbrev pub top_of : Bool → Ref → List ℕ
-top_of maps object = front (maps && nat_lt 252 object.pages) object.root
+top_of maps object = front (maps && nat_lt ROOM object.pages) object.root
 
 -- the blocks of an object's pages in order, and where they are wanted its maps, each before what it names; or the first map that
 -- isn't right
@@ -74,7 +75,7 @@ at_place i (Ok xs) = Ok (slice_index xs i)
 abbrev pub address_in : List (List ℕ) → ℕ → ℕ → Result (List ℕ) ℕ → Result ℕ ℕ
 address_in all pages n (Err b) = Err b
 address_in all pages n (Ok leaves) =
-    at_place (n % 252) (map_at all 1 (used_in pages (n / 252)) (slice_index leaves (n / 252)))
+    at_place (n % ROOM) (map_at all 1 (used_in pages (n / ROOM)) (slice_index leaves (n / ROOM)))
 
 -- the block of one page, or the first map on the way to it that isn't right
 abbrev pub address_of : List (List ℕ) → Ref → ℕ → Result ℕ ℕ

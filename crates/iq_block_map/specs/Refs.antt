@@ -1,4 +1,6 @@
 -- What callers owe of references, and what maps hold.
+use Rattle.iq_block_map.specs.declared.map_bytes.TheConstants.{ROOM}
+use Rattle.iq_base.specs.declared.sizes.TheConstants.{MOST_PAGES}
 use Rattle.std.specs.Prelude.{◌≡◌, ℕ, ◌≤◌, ◌<◌, true, List, length, slice_index, Option, Some}
 use Rattle.iq_base.specs.declared.refs.Ref.{Ref}
 use Rattle.iq_block_map.specs.Maps.{are_places}
@@ -9,7 +11,7 @@ WhereTold told Holds = (all : List (List ℕ)) → told ≡ Some all → Holds a
 
 -- a reference may stand in a store: at most 63,504 pages, and where it has any, its root is a block behind the roots
 pub record IsIn (told : Option (List (List ℕ))) (object : Ref) : Type 0 where
-  pub few : object.pages ≤ 63504
+  pub few : object.pages ≤ MOST_PAGES
   pub above : 1 ≤ object.pages → 4 ≤ object.root
   pub below : 1 ≤ object.pages → (all : List (List ℕ)) → told ≡ Some all → object.root < length all
 
@@ -20,7 +22,7 @@ pub record IsPlace (told : Option (List (List ℕ))) (block : ℕ) : Type 0 wher
 
 -- numbers of a map of which so many are in use
 pub record MayBe (count used : ℕ) (ps : List ℕ) : Type 0 where
-  pub size : length ps ≡ 252
+  pub size : length ps ≡ ROOM
   pub places : are_places count used ps ≡ true
 
 -- numbers of a map that were read: so many are in use, and name blocks behind the roots, and of the store where it is told

@@ -1,4 +1,6 @@
 //! Writing an object anew, by maps that it shares with the old one where their pages are the same.
+ghost use Rattle.iq_block_map.specs.declared.map_bytes.TheConstants.{ROOM};
+ghost use Rattle.iq_base.specs.declared.sizes.TheConstants.{MOST_PAGES};
 ghost use Rattle.std.specs.Prelude.{◌≡◌, ◌≢◌, ◌≤◌, ◌<◌, ◌*◌, ◌+◌, ◌-◌, ◌++◌, ℕ, List, [], Some, Ok, Err, length, slice_index, take, IfOk, IfErr, OnOk, IsTrue, IsFalse};
 ghost use Rattle.iq_block_map.specs.Refs.{IsIn, WhereTold, IsPlace, HasPlaces};
 ghost use Rattle.iq_block_map.specs.Objects.{leaf_count, used_in};
@@ -38,7 +40,7 @@ pub fn remap<D: Device, T: Taker>(
 ) -> Result<Ref, MapFault>
     requires object { IsIn (D.blocks disk.old) old }
     requires changes { AreChanges 0 old.pages changed.now }
-    requires most { old.pages + length added.now ≤ 63504 }
+    requires most { old.pages + length added.now ≤ MOST_PAGES }
     requires changed { AreBlocks (D.blocks disk.old) (new_blocks changed.now) }
     requires added { AreBlocks (D.blocks disk.old) added.now }
     requires spare { AreSpare (D.blocks disk.old) (T.left space.old) }
@@ -73,7 +75,7 @@ fn rebuild<D: Device, T: Taker>(
     requires object { IsIn (D.blocks disk.old) old }
     requires changes { AreChanges 0 old.pages changed.now }
     requires some { 1 ≤ length changed.now + length added.now }
-    requires most { old.pages + length added.now ≤ 63504 }
+    requires most { old.pages + length added.now ≤ MOST_PAGES }
     requires changed { AreBlocks (D.blocks disk.old) (new_blocks changed.now) }
     requires added { AreBlocks (D.blocks disk.old) added.now }
     requires spare { AreSpare (D.blocks disk.old) (T.left space.old) }
@@ -132,8 +134,8 @@ fn top<D: Device, T: Taker>(
 
 /// Whether an object that has a map above its leaves keeps them.
 fn keeps_leaves(old: Ref, before: &Places, leaves: &Places) -> bool
-    ensures yes { IsTrue result → (252 < old.pages) × (leaves.now ≡ before.now) }
-    ensures no { IsFalse result → 252 < old.pages → leaves.now ≢ before.now }
+    ensures yes { IsTrue result → (ROOM < old.pages) × (leaves.now ≡ before.now) }
+    ensures no { IsFalse result → ROOM < old.pages → leaves.now ≢ before.now }
 {
     old.pages > 252 && leaves == before
 }
@@ -151,7 +153,7 @@ fn rewrite_leaves<D: Device, T: Taker>(
     requires count { WhereTold (D.blocks disk.old) (λ all. count ≡ length all) }
     requires before { HasPlaces (D.blocks disk.old) (leaf_count old.pages) before.now }
     requires changes { AreChanges 0 old.pages changed.now }
-    requires most { old.pages + length added.now ≤ 63504 }
+    requires most { old.pages + length added.now ≤ MOST_PAGES }
     requires changed { AreBlocks (D.blocks disk.old) (new_blocks changed.now) }
     requires added { AreBlocks (D.blocks disk.old) added.now }
     requires spare { AreSpare (D.blocks disk.old) (T.left space.old) }
@@ -207,7 +209,7 @@ fn rewrite_leaf<D: Device, T: Taker>(
 ) -> Result<u32, MapFault>
     requires count { WhereTold (D.blocks disk.old) (λ all. count ≡ length all) }
     requires leaf { 1 ≤ leaf.used → IsPlace (D.blocks disk.old) leaf.at }
-    requires room { leaf.used + length more.now ≤ 252 }
+    requires room { leaf.used + length more.now ≤ ROOM }
     requires here { AreChanges leaf.first (leaf.first + leaf.used) here.now }
     requires more { AreBlocks (D.blocks disk.old) more.now }
     requires spare { AreSpare (D.blocks disk.old) (T.left space.old) }
@@ -258,7 +260,7 @@ fn keeps_pages(used: usize, before: &Places, places: &Places) -> bool
 fn read_leaf<D: Device>(disk: &mut D, count: u32, leaf: Leaf) -> Result<Places, MapFault>
     requires count { WhereTold (D.blocks disk.old) (λ all. count ≡ length all) }
     requires leaf { WhereTold (D.blocks disk.old) (λ all. 1 ≤ leaf.used → leaf.at < length all) }
-    requires used { leaf.used ≤ 252 }
+    requires used { leaf.used ≤ ROOM }
     ensures looked { HasLooked D.Device disk.old disk.new }
     ensures ok { IfOk result (λ ps. WhereTold (D.blocks disk.old)
         (λ all. leaf_at all leaf.used leaf.at ≡ Ok (take leaf.used ps))) }
@@ -274,7 +276,7 @@ fn read_leaf<D: Device>(disk: &mut D, count: u32, leaf: Leaf) -> Result<Places, 
 
 /// The numbers of a leaf with some replaced and others behind those in use.
 fn edit(before: &Places, leaf: Leaf, here: &[(u32, u32)], more: &[u32]) -> Places
-    requires room { leaf.used + length more.now ≤ 252 }
+    requires room { leaf.used + length more.now ≤ ROOM }
     requires here { AreChanges leaf.first (leaf.first + leaf.used) here.now }
     ensures { (xs : List ℕ) → length xs ≡ leaf.used → before.now ≡ padded xs
         → result ≡ padded (replaced_from leaf.first xs here.now ++ more.now) }

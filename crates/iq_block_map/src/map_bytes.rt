@@ -1,4 +1,5 @@
 //! The bytes of maps.
+ghost use Rattle.iq_block_map.specs.declared.map_bytes.TheConstants.{ROOM};
 ghost use Rattle.std.specs.Prelude.{◌≡◌, ◌≤◌, nat_eq};
 ghost use Rattle.std.specs.List.{flat_map, list_all};
 ghost use Rattle.iq_block_store.specs.Frames.{bytes_of};
@@ -41,7 +42,7 @@ pub fn payload_of(places: &Places) -> Page
 
 /// Whether what was read is a map of a level, with so many numbers in use, in a store of so many blocks.
 pub fn is_right_map(count: u32, level: u32, used: usize, raw: &RawMap) -> bool
-    requires { used ≤ 252 }
+    requires { used ≤ ROOM }
     ensures { result ≡ is_right_map count level used raw.now }
 {
     raw.level == level && are_places(count, used, &raw.numbers)
@@ -59,7 +60,7 @@ pub fn raw_map_of(block: &Block) -> RawMap
 
 /// Whether so many numbers name blocks, and the others are zero.
 fn are_places(count: u32, used: usize, places: &Places) -> bool
-    requires { used ≤ 252 }
+    requires { used ≤ ROOM }
     ensures { result ≡ are_places count used places.now }
 {
     let (named, spare) = places.split_at(used);

@@ -1,4 +1,5 @@
 //! Writing one page of an object.
+ghost use Rattle.iq_base.specs.declared.sizes.TheConstants.{MOST_PAGES};
 ghost use Rattle.std.specs.Prelude.{◌≡◌, ◌≤◌, ◌<◌, ◌+◌, length, IfOk, IfErr};
 ghost use Rattle.iq_block_map.specs.Objects.{leaf_count};
 ghost use Rattle.iq_block_map.specs.Refs.{IsIn};
@@ -55,7 +56,7 @@ pub fn push<D: Device, T: Taker>(
     from: &Page,
 ) -> Result<Ref, MapFault>
     requires object { IsIn (D.blocks disk.old) object }
-    requires most { object.pages < 63504 }
+    requires most { object.pages < MOST_PAGES }
     requires spare { AreSpare (D.blocks disk.old) (T.left space.old) }
     ensures put { HasPut D.Device (T.left space.old) (T.left space.new) disk.old disk.new }
     ensures spare { AreSpare (D.blocks disk.new) (T.left space.new) }

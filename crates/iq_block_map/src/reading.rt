@@ -1,4 +1,6 @@
 //! Reading objects.
+ghost use Rattle.iq_block_map.specs.declared.map_bytes.TheConstants.{ROOM};
+ghost use Rattle.iq_base.specs.declared.sizes.TheConstants.{MOST_PAGES};
 ghost use Rattle.std.specs.Prelude.{◌≡◌, ◌≤◌, ◌<◌, ◌^◌, ◌*◌, ◌+◌, ◌-◌, ◌++◌, ℕ, true, false, List, Some, Ok, Err, length, slice_index, take, IfOk, IfErr, OnOk};
 ghost use Rattle.iq_block_store.specs.Looks.{HasLooked};
 ghost use Rattle.iq_block_map.specs.Maps.{IsRawMap, is_address};
@@ -17,7 +19,7 @@ use std::alloc::Global;
 
 /// How many leaves so many pages take.
 pub fn leaf_count(pages: u32) -> u32
-    requires { pages ≤ 63504 }
+    requires { pages ≤ MOST_PAGES }
     ensures { result ≡ leaf_count pages }
 {
     (pages + 251) / 252
@@ -25,7 +27,7 @@ pub fn leaf_count(pages: u32) -> u32
 
 /// The most maps that an object of so many pages has, and so the most blocks that a `remap` takes for one.
 pub fn most_maps(pages: u32) -> u32
-    requires { pages ≤ 63504 }
+    requires { pages ≤ MOST_PAGES }
     ensures most { result ≡ leaf_count pages + 1 }
     ensures enough { (xs ys : List ℕ) → length ys ≡ pages → maps_needed xs ys ≤ result }
 {
@@ -34,7 +36,7 @@ pub fn most_maps(pages: u32) -> u32
 
 /// How many pages a leaf names, of so many.
 pub fn used_in(pages: u32, k: u32) -> usize
-    requires { k ≤ 252 }
+    requires { k ≤ ROOM }
     ensures { result ≡ used_in pages k }
 {
     let used = pages.saturating_sub(252 * k).min(252);
@@ -49,7 +51,7 @@ pub fn read_map<D: Device>(
     used: usize,
     at: u32,
 ) -> Result<Places, MapFault>
-    requires used { used ≤ 252 }
+    requires used { used ≤ ROOM }
     requires told { WhereTold (D.blocks disk.old)
         (λ all. (count ≡ length all) × (at < length all)) }
     ensures looked { HasLooked D.Device disk.old disk.new }
@@ -109,7 +111,7 @@ pub fn leaves_of<D: Device>(disk: &mut D, count: u32, object: Ref) -> Result<Pla
 
 /// The leaf of an object of at most 252 pages.
 fn only_leaf(object: Ref) -> Places
-    requires { object.pages ≤ 252 }
+    requires { object.pages ≤ ROOM }
     ensures root { 1 ≤ object.pages → slice_index result 0 ≡ object.root }
     ensures places { (count : ℕ) → (1 ≤ object.pages → is_address count object.root ≡ true)
         → MayBe count (leaf_count object.pages) result }

@@ -2,7 +2,7 @@
 use Rattle.std.specs.Prelude.{◌≡◌, ◌≤◌, ℕ, Bool, true, false, ◌&&◌, not, max, List, [], ◌∷◌, length, map, nat_eq, nat_lt, nat_le, if◌then◌else◌, Option, Some, None}
 use Rattle.std.specs.List.{list_any}
 use Rattle.std.specs.Cmp.Lexicographic.{pointwise}
-use Rattle.iq_base.specs.Limits.{text_length, limit_for}
+use Rattle.iq_base.specs.Limits.{text_length, rows_within}
 use Rattle.iq_base.specs.declared.values.Kind.{Kind}
 use Rattle.iq_base.specs.declared.values.Kind.TheVariants.{Int, Big, Varchar}
 use Rattle.iq_base.specs.declared.schemas.IndexKind.{IndexKind}
@@ -109,10 +109,9 @@ is_low_fast Cmp = false
 abbrev pub has_low_fast : List IndexPart → Bool
 has_low_fast is = list_any (λ (i : IndexPart). is_low_fast i.spec.kind) is
 
--- how many slots a table may have: 2,097,152 without texts and without LF, else by its longest text
+-- how many slots a table may have, by its longest text and by whether it has a Low Fast index
 abbrev pub slot_limit : Descriptor → ℕ
-slot_limit t =
-    if nat_eq (longest_text t.columns) 0 && not (has_low_fast t.indexes) then 2097152 else limit_for (longest_text t.columns)
+slot_limit t = rows_within (longest_text t.columns) (has_low_fast t.indexes)
 
 -- a descriptor that may be stored
 pub record IsStorable (t : Descriptor) : Type 0 where

@@ -1,6 +1,5 @@
 //! The numbers by which a descriptor's text names what isn't a number.
 ghost use Rattle.std.specs.Prelude.{◌≡◌, ◌≤◌, ◌+◌, length};
-ghost use Rattle.iq_base.specs.Limits.{text_length};
 ghost use Rattle.iq_block_store.specs.Frames.{number_at, bytes_of};
 ghost use Rattle.iq_catalog.specs.Texts.{kind_code, null_code, index_code, second_code};
 ghost use Rattle.iq_catalog.specs.Reading.{kind_of, index_kind_of, second_of};
@@ -13,16 +12,6 @@ pub const MOST_NAME: usize = 30;
 
 /// What stands in place of a second column where there is none.
 const NO_COLUMN: u8 = 255;
-
-/// How long a text of a column may be, and 0 for numbers.
-pub fn text_length(kind: Kind) -> u8
-    ensures { result ≡ text_length kind }
-{
-    match kind {
-        Kind::Int | Kind::Big => 0,
-        Kind::Varchar(length) => length,
-    }
-}
 
 /// The number of a kind of values.
 pub fn kind_code(kind: Kind) -> u8

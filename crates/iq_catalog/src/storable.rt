@@ -1,10 +1,11 @@
 //! Which descriptors may be stored.
 ghost use Rattle.std.specs.Prelude.{◌≡◌, ◌↔◌, ◌&&◌, length, IsTrue};
-ghost use Rattle.iq_base.specs.Limits.{limit_for};
 ghost use Rattle.iq_catalog.specs.Storable.{is_ascii, is_name, is_ref, is_kind, form_for, is_column, is_second, most_distinct, is_index, are_columns, are_indexes, is_among, are_distinct, column_names, index_names, longest_text, is_low_fast, has_low_fast, slot_limit, IsStorable};
 
-use crate::codes::text_length;
-use iq_base::{ColumnPart, Descriptor, IndexKind, IndexPart, Kind, MOST_PAGES, Name, Ref};
+use iq_base::{
+    ColumnPart, Descriptor, IndexKind, IndexPart, Kind, MOST_PAGES, Name, Ref, rows_within,
+    text_length,
+};
 
 /// The most columns of a table, and the most indexes.
 const MOST_PARTS: usize = 32;
@@ -30,27 +31,14 @@ pub fn is_storable(table: &Descriptor) -> bool
         && differ_in_indexes(indexes)
 }
 
-/// How many slots a table may have: 2,097,152 without texts and without an LF index, else by its longest text.
+/// How many slots a table may have, by its longest text and by whether it has a Low Fast index.
 pub fn slot_limit(table: &Descriptor) -> u32
     ensures { result ≡ slot_limit table.now }
 {
-    let longest = longest_text(table.columns.as_slice());
-    if longest == 0 && !has_low_fast(table.indexes.as_slice()) {
-        2_097_152
-    } else {
-        limit_for(longest)
-    }
-}
-
-fn limit_for(longest: u8) -> u32
-    ensures { result ≡ limit_for longest }
-{
-    match longest {
-        0..=105 => 262_144,
-        106..=136 => 254_016,
-        137..=194 => 190_512,
-        _ => 127_008,
-    }
+    rows_within(
+        longest_text(table.columns.as_slice()),
+        has_low_fast(table.indexes.as_slice()),
+    )
 }
 
 fn longest_text(columns: &[ColumnPart]) -> u8

@@ -5,11 +5,11 @@ ghost use Rattle.iq_catalog.specs.Pages.{descriptor_bytes, HasPages};
 ghost use Rattle.iq_catalog.specs.Storable.{IsStorable};
 ghost use Rattle.iq_block_store.specs.Frames.{bytes_of};
 
-use crate::codes::{
-    MOST_NAME, bytes_of, index_code, kind_code, null_code, second_code, text_length,
-};
+use crate::codes::{MOST_NAME, bytes_of, index_code, kind_code, null_code, second_code};
 use crate::pages::{cut, fill, put_zeros};
-use iq_base::{ColumnPart, Descriptor, IndexPart, Name, NoMemory, PAGE_BYTES, Page, Ref};
+use iq_base::{
+    ColumnPart, Descriptor, IndexPart, Name, NoMemory, PAGE_BYTES, Page, Ref, text_length,
+};
 use std::alloc::Global;
 
 /// The most bytes of a descriptor's pages.

@@ -1,5 +1,5 @@
 //! Rows, kept as one column of cells for each place.
-ghost use Rattle.std.specs.Prelude.{◌≡◌, ◌↔◌, ◌<◌, ◌^◌, [], length, slice_index_or, IsTrue, IfOk, OnOk, OnErr, IfErr};
+ghost use Rattle.std.specs.Prelude.{◌≡◌, ◌↔◌, ◌<◌, ◌^◌, ℕ, [], length, slice_index_or, IsTrue, IfOk, OnOk, OnErr, IfErr};
 ghost use Rattle.iq_base.specs.declared.values.Kind.TheVariants.{Int};
 ghost use Rattle.iq_cells.specs.Packed.{value_at};
 ghost use Rattle.iq_cells.specs.Tables.{rows_in, row_at, column_of, AreLong};
@@ -76,7 +76,8 @@ impl Rows {
 
     /// How many values each row has.
     pub fn width(&self) -> usize
-        ensures { result ≡ length self.now.kinds }
+        ensures kinds { result ≡ length self.now.kinds }
+        ensures each { (r : ℕ) → r < length self.now.rows → length (row_at r self.now.rows) ≡ result }
     {
         self.columns.len()
     }

@@ -9,15 +9,17 @@ use Rattle.iq_base.specs.declared.schemas.Column.{Column}
 use Rattle.iq_base.specs.declared.refusals.Refusal.{Refusal}
 use Rattle.iq_base.specs.declared.refusals.Refusal.TheVariants as refusals
 use Rattle.iq_base.specs.declared.refusals.FieldCause.{FieldCause}
-use Rattle.iq_base.specs.declared.refusals.FieldCause.TheVariants as causes
+use Rattle.iq_base.specs.declared.limits.TheConstants.{MOST_TABLES}
 use Rattle.iq_base.specs.Limits.{row_limit}
+use Rattle.iq_cells.specs.declared.fields.BadField.{BadField}
+use Rattle.iq_cells.specs.Fields.{first_bad_field}
 use Rattle.iq_ast.specs.declared.statements.Statement.{Statement}
 use Rattle.iq_ast.specs.declared.statements.Statement.TheVariants as statements
 use Rattle.iq_ast.specs.declared.statements.Write.{Write}
 use Rattle.iq_ast.specs.declared.statements.Write.TheVariants as writes
 use Rattle.iq_ast.specs.declared.statements.Item.{Item}
 use Rattle.iq_model.specs.Tables.{Database, Table, table_of}
-use Rattle.iq_model.specs.Statements.{Check, first_refusal, found_if, column_place, item_column, no_column, first_no_column, field_cause, bad_field, first_bad_field, bad_row, first_bad_row, most_tables, insert_checks, select_checks, create_checks, write_checks, statement_checks, room_check, room_checks}
+use Rattle.iq_model.specs.Statements.{Check, first_refusal, found_if, column_place, item_column, no_column, first_no_column, refused_at, bad_row, first_bad_row, insert_checks, select_checks, create_checks, write_checks, statement_checks, room_check, room_checks}
 
 -- a fact of all refusals that these tests can find
 pub record IsOfFound (P : Refusal → Type 0) : Type 0 where
@@ -67,23 +69,12 @@ module _ (P : Refusal → Type 0) (of : IsOfFound P) where
   found-first_no_column columns (item ∷ members) =
       either P (no_column columns (item_column item)) (first_no_column columns members) (found-no_column columns (item_column item)) (found-first_no_column columns members)
 
-  found-bad_field : (row field : ℕ) (cause : Option FieldCause) → IfSome (bad_field row field cause) P
-  found-bad_field row field None = tt
-  found-bad_field row field (Some cause) = of.bad_row row field cause
-
-  found-first_bad_field : (row field : ℕ) (columns : List Column) (fields : List Value) → IfSome (first_bad_field row field columns fields) P
-  found-first_bad_field row field [] fields = tt
-  found-first_bad_field row field (column ∷ columns) [] = tt
-  found-first_bad_field row field (column ∷ columns) (value ∷ fields) =
-      either P (bad_field row field (field_cause column value)) (first_bad_field row (field + 1) columns fields)
-      (found-bad_field row field (field_cause column value)) (found-first_bad_field row (field + 1) columns fields)
+  found-refused_at : (row : ℕ) (bad : Option BadField) → IfSome (refused_at row bad) P
+  found-refused_at row None = tt
+  found-refused_at row (Some bad) = of.bad_row row bad.field bad.cause
 
   found-bad_row : (row : ℕ) (columns : List Column) (fields : List Value) → IfSome (bad_row row columns fields) P
-  found-bad_row row columns fields = by_count (nat_eq (length fields) (length columns))
-    where
-      by_count : (b : Bool) → IfSome (cond b (first_bad_field row 1 columns fields) (Some (refusals.BadRow row 0 causes.Count))) P
-      by_count true = found-first_bad_field row 1 columns fields
-      by_count false = of.bad_row row 0 causes.Count
+  found-bad_row row columns fields = found-refused_at row (first_bad_field columns fields)
 
   found-first_bad_row : (row : ℕ) (columns : List Column) (rows : List (List Value)) → IfSome (first_bad_row row columns rows) P
   found-first_bad_row row columns [] = tt
@@ -101,7 +92,7 @@ module _ (P : Refusal → Type 0) (of : IsOfFound P) where
   found-create : (name : Name) (db : Database) → AllFound P (create_checks name db)
   found-create name db = (
     by_test (is_some (table_of name db)) (refusals.TableExists name) (of.table_exists name),
-    (by_test (nat_le most_tables (length db)) refusals.CatalogFull of.catalog_full, tt),
+    (by_test (nat_le MOST_TABLES (length db)) refusals.CatalogFull of.catalog_full, tt),
   )
 
   found-write : (write : Write) (db : Database) → AllFound P (write_checks write db)
@@ -128,7 +119,7 @@ module _ (P : Refusal → Type 0) (of : IsOfFound P) where
 
   found-room : (o : Option Table) (count : ℕ) → AllFound P (room_check o count)
   found-room None count = tt
-  found-room (Some t) count = (by_test (nat_lt (row_limit t.columns) (length t.slots + count)) (refusals.TableFull (row_limit t.columns)) (of.table_full (row_limit t.columns)), tt)
+  found-room (Some t) count = (by_test (nat_lt (row_limit t.columns false) (length t.slots + count)) (refusals.TableFull (row_limit t.columns false)) (of.table_full (row_limit t.columns false)), tt)
 
   found-write_room : (write : Write) (db : Database) → AllFound P (room_checks (statements.Write write) db)
   found-write_room (writes.CreateTable name schema) db = tt

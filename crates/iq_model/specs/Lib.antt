@@ -1,3 +1,5 @@
+pub mod Outs
+pub mod AnswerForms
 pub mod Scripts
 pub mod Tables
 pub mod Statements

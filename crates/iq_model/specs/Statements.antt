@@ -6,16 +6,15 @@ use Rattle.std.specs.Option.{option_or}
 use Rattle.iq_base.specs.Shorts.{Name}
 use Rattle.iq_base.specs.declared.values.Value.{Value}
 use Rattle.iq_base.specs.declared.values.Value.TheVariants as values
-use Rattle.iq_base.specs.declared.values.Kind.{Kind}
-use Rattle.iq_base.specs.declared.values.Kind.TheVariants as kinds
 use Rattle.iq_base.specs.declared.schemas.Column.{Column}
 use Rattle.iq_model.specs.declared.answers.Out.{Out}
 use Rattle.iq_model.specs.declared.answers.Out.TheVariants as outs
 use Rattle.iq_base.specs.declared.refusals.Refusal.{Refusal}
 use Rattle.iq_base.specs.declared.refusals.Refusal.TheVariants as refusals
-use Rattle.iq_base.specs.declared.refusals.FieldCause.{FieldCause}
-use Rattle.iq_base.specs.declared.refusals.FieldCause.TheVariants as causes
+use Rattle.iq_base.specs.declared.limits.TheConstants.{MOST_TABLES}
 use Rattle.iq_base.specs.Limits.{row_limit}
+use Rattle.iq_cells.specs.declared.fields.BadField.{BadField}
+use Rattle.iq_cells.specs.Fields.{first_bad_field}
 use Rattle.iq_base.specs.Locks.{locks_of}
 use Rattle.iq_ast.specs.declared.statements.Statement.{Statement}
 use Rattle.iq_ast.specs.declared.statements.Statement.TheVariants as statements
@@ -24,6 +23,7 @@ use Rattle.iq_ast.specs.declared.statements.Write.TheVariants as writes
 use Rattle.iq_ast.specs.declared.statements.Select.{Select}
 use Rattle.iq_ast.specs.declared.statements.Item.{Item}
 use Rattle.iq_ast.specs.declared.statements.Item.TheVariants as items
+use Rattle.iq_model.specs.Outs.{out_of}
 use Rattle.iq_model.specs.Tables.{Table, Database, content, with_rows, empty_table, same_name, table_of, placed, replaced}
 
 -- A test of a statement: its place in the order of tests, and the refusal that it finds, if any.
@@ -68,50 +68,14 @@ first_no_column columns (item ∷ rest) = option_or (no_column columns (item_col
 
 -- ROWS OF AN INSERT
 
--- whether a whole number fits 32 bits with a sign
-abbrev pub fits_int : ℤ → Bool
-fits_int (pos n) = nat_lt n 2147483648
-fits_int (negsuc n) = nat_lt n 2147483648
-
--- whether it fits 64 bits with a sign
-abbrev pub fits_big : ℤ → Bool
-fits_big (pos n) = nat_lt n 9223372036854775808
-fits_big (negsuc n) = nat_lt n 9223372036854775808
-
--- what is wrong with a number in a column of this kind
-abbrev pub number_cause : Kind → ℤ → Option FieldCause
-number_cause kinds.Int z = if fits_int z then None else Some causes.Range
-number_cause kinds.Big z = if fits_big z then None else Some causes.Range
-number_cause (kinds.Varchar most) z = Some causes.NotText
-
--- what is wrong with a text in a column of this kind
-abbrev pub text_cause : Kind → List ℕ → Option FieldCause
-text_cause kinds.Int text = Some causes.NotNumber
-text_cause kinds.Big text = Some causes.NotNumber
-text_cause (kinds.Varchar most) text = if nat_le (length text) most then None else Some causes.TextTooLong
-
--- what is wrong with a value in a column
-abbrev pub field_cause : Column → Value → Option FieldCause
-field_cause column values.Null = if column.null then None else Some causes.NullRefused
-field_cause column (values.Int z) = number_cause column.kind z
-field_cause column (values.Text text) = text_cause column.kind text
-
--- the refusal of a value, named by its row and its field
-abbrev pub bad_field : ℕ → ℕ → Option FieldCause → Option Refusal
-bad_field row field None = None
-bad_field row field (Some cause) = Some (refusals.BadRow row field cause)
-
--- the first bad value of a row, whose fields are counted from this one on
-abbrev pub first_bad_field : ℕ → ℕ → List Column → List Value → Option Refusal
-first_bad_field row field [] fields = None
-first_bad_field row field (column ∷ columns) [] = None
-first_bad_field row field (column ∷ columns) (value ∷ fields) =
-    option_or (bad_field row field (field_cause column value)) (first_bad_field row (field + 1) columns fields)
+-- the refusal of a row that is bad at a field
+abbrev pub refused_at : ℕ → Option BadField → Option Refusal
+refused_at row None = None
+refused_at row (Some bad) = Some (refusals.BadRow row bad.field bad.cause)
 
 -- the refusal of a row: a wrong number of fields, else its first bad value
 abbrev pub bad_row : ℕ → List Column → List Value → Option Refusal
-bad_row row columns fields =
-    if nat_eq (length fields) (length columns) then first_bad_field row 1 columns fields else Some (refusals.BadRow row 0 causes.Count)
+bad_row row columns fields = refused_at row (first_bad_field columns fields)
 
 -- the first bad row, where rows are counted from this one on
 abbrev pub first_bad_row : ℕ → List Column → List (List Value) → Option Refusal
@@ -119,10 +83,6 @@ first_bad_row row columns [] = None
 first_bad_row row columns (fields ∷ rows) = option_or (bad_row row columns fields) (first_bad_row (row + 1) columns rows)
 
 -- REFUSALS
-
--- how many tables there can be
-abbrev pub most_tables : ℕ
-most_tables = 64
 
 -- the tests of what is named, and of the values, on the table that an INSERT names
 abbrev pub insert_checks : Name → Option Table → List (List Value) → List Check
@@ -138,7 +98,7 @@ select_checks name (Some t) items = record { order = 5; found = first_no_column 
 abbrev pub create_checks : Name → Database → List Check
 create_checks name db =
     record { order = 5; found = found_if (is_some (table_of name db)) (refusals.TableExists name) }
-    ∷ record { order = 5; found = found_if (nat_le most_tables (length db)) refusals.CatalogFull }
+    ∷ record { order = 5; found = found_if (nat_le MOST_TABLES (length db)) refusals.CatalogFull }
     ∷ []
 
 -- the tests of what is named, and of the values, in the order in which they are made
@@ -167,7 +127,7 @@ statement_checks statements.Sync db = []
 abbrev pub room_check : Option Table → ℕ → List Check
 room_check None count = []
 room_check (Some t) count =
-    record { order = 10; found = found_if (nat_lt (row_limit t.columns) (length t.slots + count)) (refusals.TableFull (row_limit t.columns)) } ∷ []
+    record { order = 10; found = found_if (nat_lt (row_limit t.columns false) (length t.slots + count)) (refusals.TableFull (row_limit t.columns false)) } ∷ []
 
 -- the tests that come once the names are locked
 abbrev pub room_checks : Statement → Database → List Check
@@ -298,12 +258,6 @@ HasMeaning (statements.Release name) = ⊥
 HasMeaning statements.Sync = ⊥
 
 -- ANSWER
-
--- a value as it is answered
-abbrev pub out_of : Value → Out
-out_of values.Null = outs.Null
-out_of (values.Int z) = outs.Int z
-out_of (values.Text text) = outs.Text text
 
 -- a place of a row; NULL where there is none
 abbrev pub value_or_null : Option Value → Out

@@ -1,6 +1,7 @@
 //! What queries and steps answer.
 ghost use Rattle.std.specs.Prelude.{◌≡◌};
 
+use crate::answer_rows::AnswerRows;
 use iq_base::{Letters, Listed, Text};
 
 /// A value of an answer. Sums are of whole numbers of 128 bits.
@@ -11,10 +12,23 @@ pub enum Out {
     Text(Text),
 }
 
+impl Out {
+    /// The same value once more, without memory.
+    pub fn again(&self) -> Out
+        ensures { result ≡ self.now }
+    {
+        match self {
+            Out::Null => Out::Null,
+            Out::Int(number) => Out::Int(*number),
+            Out::Text(text) => Out::Text(text.again()),
+        }
+    }
+}
+
 /// What a query answers: its rows, or under EXPLAIN the texts of its plan.
 #[derive(Debug, Drop)]
 pub enum Answer {
-    Rows(Listed<Listed<Out>>),
+    Rows(AnswerRows),
     Plan(Listed<Letters>),
 }
 

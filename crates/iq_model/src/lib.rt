@@ -5,6 +5,7 @@
 //! and `iq_history`; above stands every crate that promises what a run means.
 #![tactic(auto)]
 
+mod answer_rows;
 mod answers;
 mod checks;
 mod locking;
@@ -12,6 +13,7 @@ mod projection;
 mod replies;
 mod scripts;
 
+pub use answer_rows::AnswerRows;
 pub use answers::{Answer, Freed, NodeVersion, Out, Sent, Versions};
 pub use checks::{column_place, first_bad_row, first_no_column};
 pub use locking::names_of;

@@ -1,7 +1,8 @@
 //! Values as a query answers them.
 ghost use Rattle.std.specs.Prelude.{◌≡◌, IfOk};
 ghost use Rattle.std.specs.Option.{option_copied};
-ghost use Rattle.iq_model.specs.Statements.{out_of, value_or_null, value_at, item_value, projected};
+ghost use Rattle.iq_model.specs.Outs.{out_of};
+ghost use Rattle.iq_model.specs.Statements.{value_or_null, value_at, item_value, projected};
 
 use crate::answers::Out;
 use crate::checks::column_place;

@@ -80,3 +80,9 @@ place_is objects number i h e f =
         others = λ other n. pages_elsewhere objects number other i object object (e object) (eq-eqb _ _ is) n;
       };
     }
+
+-- where one object is another of its number and its pages, each number has the pages that it had
+pub pages_traded : (xs ys : List Object) (o p : Object) (number : ℕ) → o.number ≡ p.number → o.pages.items ≡ p.pages.items → pages_in (xs ++ o ∷ ys) number ≡ pages_in (xs ++ p ∷ ys) number
+pages_traded [] ys o p number e f = rw (e, f) refl
+pages_traded (x ∷ xs) ys o p number e f =
+    elim (nat_eq x.number number) as (λ b. (if b then x.pages.items else pages_in (xs ++ o ∷ ys) number) ≡ (if b then x.pages.items else pages_in (xs ++ p ∷ ys) number)) [ true ↦ refl | false ↦ pages_traded xs ys o p number e f ]

@@ -1,5 +1,5 @@
 //! Objects of pages in memory: a short list of numbers, each with its pages.
-ghost use Rattle.std.specs.Prelude.{◌≡◌, ◌<◌, [], ◌∷◌, ◌++◌, length, slice_get, slice_set, IfSome, IfNone, OnOk, OnErr, Some};
+ghost use Rattle.std.specs.Prelude.{◌≡◌, ◌<◌, [], ◌∷◌, ◌++◌, length, slice_get, slice_set, IfSome, IfNone, IfOk, OnOk, OnErr, Some, ℕ};
 ghost use Rattle.iq_pages.specs.MemoryPages.{pages_in, IsPlaceOf, IsMissing, ChangesPages};
 
 use iq_base::{NoMemory, Page};
@@ -75,6 +75,29 @@ pub fn clear(objects: &mut [Object], number: u32)
         let object = &mut objects[place];
         object.pages.clear();
     }
+}
+
+/// The same objects once more.
+pub fn copied(objects: &[Object], alloc: Global) -> Result<Vec<Object>, NoMemory>
+    ensures { IfOk result (λ copy. (number : ℕ) → pages_in copy.items number ≡ pages_in objects.now number) }
+{
+    let mut copy = Vec::with_capacity(alloc, objects.len())?;
+    for object in objects {
+        copy.push(copied_object(object, alloc)?)?;
+    }
+    Ok(copy)
+}
+
+fn copied_object(object: &Object, alloc: Global) -> Result<Object, NoMemory>
+    ensures number { IfOk result (λ copy. copy.number ≡ object.now.number) }
+    ensures pages { IfOk result (λ copy. copy.pages.items ≡ object.now.pages.items) }
+{
+    let mut pages = Vec::new(alloc);
+    pages.extend_from_slice(&object.pages)?;
+    Ok(Object {
+        number: object.number,
+        pages,
+    })
 }
 
 fn place_of(objects: &[Object], number: u32) -> Option<usize>

@@ -1,5 +1,5 @@
 //! A sink of pages in memory, which fails at listed calls.
-ghost use Rattle.std.specs.Prelude.{◌≡◌, ◌≤◌, ◌<◌, ℕ, [], Some, length, is_err, IsTrue, IsOk, false};
+ghost use Rattle.std.specs.Prelude.{◌≡◌, ◌≤◌, ◌<◌, ℕ, [], Some, length, is_err, IsTrue, IsOk, IfOk, false};
 ghost use Rattle.iq_base.specs.declared.sizes.TheConstants.{MOST_PAGES};
 ghost use Rattle.iq_outside.specs.Calls.{plan_of, is_listed};
 ghost use Rattle.iq_pages.specs.MemoryPages.{pages_in, FollowsPlan};
@@ -7,7 +7,7 @@ ghost use Rattle.iq_pages.specs.MemoryPages.{pages_in, FollowsPlan};
 use crate::memory_objects::{self, Object};
 use crate::page_faults::PageFault;
 use crate::pages::{PageSink, PageSource};
-use iq_base::Page;
+use iq_base::{NoMemory, Page};
 use iq_outside::Calls;
 use std::alloc::Global;
 
@@ -42,6 +42,20 @@ impl MemoryPages {
             reads: 0,
             writes: 0,
         }
+    }
+
+    /// The same objects once more; no call on them is to fail, and none was counted. It copies each page.
+    pub fn copied(&self) -> Result<MemoryPages, NoMemory>
+        ensures pages { IfOk result (λ copy. (object : ℕ) → memory_pages copy object ≡ memory_pages self.now object) }
+        ensures plan { IfOk result (λ copy. memory_plan copy ≡ plan_of []) }
+    {
+        Ok(MemoryPages {
+            alloc: self.alloc,
+            objects: memory_objects::copied(&self.objects, self.alloc)?,
+            calls: Calls::new(Vec::new(self.alloc)),
+            reads: 0,
+            writes: 0,
+        })
     }
 }
 

@@ -2,17 +2,15 @@
 ghost use Rattle.std.specs.Prelude.{◌≡◌, ◌+◌, ◌<◌, ◌^◌, ◌++◌, length, is_some, nat_le, nat_lt};
 ghost use Rattle.std.specs.Option.{option_copied};
 ghost use Rattle.iq_model.specs.Tables.{table_of};
-ghost use Rattle.iq_model.specs.Statements.{first_refusal, found_if, statement_checks, write_checks, insert_checks, select_checks, room_check, room_checks, most_tables, HasMeaning, HasWriteMeaning};
+ghost use Rattle.iq_model.specs.Statements.{first_refusal, found_if, statement_checks, write_checks, insert_checks, select_checks, room_check, room_checks, HasMeaning, HasWriteMeaning};
+ghost use Rattle.iq_base.specs.declared.limits.TheConstants.{MOST_TABLES};
 ghost use Rattle.iq_base.specs.Limits.{row_limit};
 ghost use Rattle.iq_model.specs.Scripts.{HasFewTuples};
 
 use crate::tables::{PlainTable, table_of};
 use iq_ast::{Item, Statement, Write};
-use iq_base::{Name, Refusal, Row, row_limit};
+use iq_base::{MOST_TABLES, Name, Refusal, Row, row_limit};
 use iq_model::{first_bad_row, first_no_column};
-
-/// How many tables there can be.
-const MOST_TABLES: usize = 64;
 
 /// The first refusal of a statement: of what it names and of its values, and then of a table's room.
 pub fn refusal_of(statement: &Statement, tables: &[PlainTable]) -> Option<Refusal>
@@ -123,7 +121,7 @@ fn name_refusal(name: &Name, tables: &[PlainTable]) -> Option<Refusal>
 
 /// The refusal of one table more: there are as many as there can be.
 fn catalog_refusal(tables: &[PlainTable]) -> Option<Refusal>
-    ensures { result ≡ found_if (nat_le most_tables (length tables.now)) Refusal.CatalogFull }
+    ensures { result ≡ found_if (nat_le MOST_TABLES (length tables.now)) Refusal.CatalogFull }
 {
     if MOST_TABLES <= tables.len() {
         Some(Refusal::CatalogFull)
@@ -160,7 +158,7 @@ fn full_refusal(table: Option<&PlainTable>, count: usize) -> Option<Refusal>
     match table {
         None => None,
         Some(table) => {
-            let limit = row_limit(table.columns());
+            let limit = row_limit(table.columns(), false);
             passes_limit(limit, table.slots().len(), count).then_some(Refusal::TableFull { limit })
         }
     }

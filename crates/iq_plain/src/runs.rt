@@ -16,7 +16,7 @@ use crate::tables::PlainTables;
 use iq_ast::{Select, Statement, Write};
 use iq_base::{Listed, NoMemory, Refusal};
 use iq_history::Entry;
-use iq_model::{Answer, Deed, Line, Reply, Said, Script, names_of, write_said};
+use iq_model::{Answer, AnswerRows, Deed, Line, Reply, Said, Script, names_of, write_said};
 use std::alloc::Global;
 
 /// What a script is answered over plain tables, and the history whose replies these are.
@@ -270,7 +270,7 @@ fn answered_line(
         entries,
         reply: Reply {
             line: l,
-            said: Said::Answer(Answer::Rows(rows)),
+            said: Said::Answer(Answer::Rows(AnswerRows::of_values(rows))),
         },
         tables,
         latest,

@@ -10,11 +10,8 @@ ghost use Rattle.iq_plex.specs.Stored.{bare, named, place_from, before_from};
 
 use crate::stored::Stored;
 use iq_ast::Write;
-use iq_base::{Name, Refusal, Row};
+use iq_base::{MOST_TABLES, Name, Refusal, Row};
 use iq_model::first_bad_row;
-
-/// How many tables there can be.
-const MOST_TABLES: usize = 64;
 
 /// The first refusal of what a write names and of its values. No row of the tables counts for it.
 pub fn check(tables: &[Stored], write: &Write) -> Option<Refusal>

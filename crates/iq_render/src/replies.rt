@@ -8,8 +8,8 @@ ghost use Rattle.iq_render.specs.Replies.{plan_line, version_numbers, version_li
 
 use crate::refusals::push_refusal;
 use crate::values::{push_count, push_named, push_place, push_row};
-use iq_base::{Census, Letters, Listed, Name};
-use iq_model::{Answer, Freed, NodeVersion, Out, Reply, Said, Sent};
+use iq_base::{Census, Letters, Name};
+use iq_model::{Answer, AnswerRows, Freed, NodeVersion, Reply, Said, Sent};
 use std::alloc::AllocError;
 
 /// The reply of one line and its rows.
@@ -147,7 +147,7 @@ fn push_said_lines(out: &mut String, nodes: &[Name], said: &Said) -> Result<(), 
     ensures { OnOk result (string_bytes out.new ≡ string_bytes out.old ++ said_lines nodes.now said.now) }
 {
     match said {
-        Said::Answer(Answer::Rows(rows)) => push_rows(out, rows.as_slice()),
+        Said::Answer(Answer::Rows(rows)) => push_rows(out, rows),
         Said::Answer(Answer::Plan(texts)) => push_plan(out, texts.as_slice()),
         Said::Versions(versions) => push_versions(out, nodes, versions.nodes.as_slice()),
         _ => Ok(()),
@@ -155,11 +155,11 @@ fn push_said_lines(out: &mut String, nodes: &[Name], said: &Said) -> Result<(), 
 }
 
 /// The rows of a table.
-fn push_rows(out: &mut String, rows: &[Listed<Out>]) -> Result<(), AllocError>
+fn push_rows(out: &mut String, rows: &AnswerRows) -> Result<(), AllocError>
     ensures { OnOk result (string_bytes out.new ≡ string_bytes out.old ++ flat_map row_line rows.now) }
 {
-    for row in rows {
-        push_row(out, row.as_slice())?;
+    for r in 0..rows.len() {
+        push_row(out, rows, r)?;
     }
     Ok(())
 }

@@ -1,10 +1,10 @@
 //! Names, values and rows.
-ghost use Rattle.std.specs.Prelude.{◌≡◌, ◌<◌, ◌++◌, length, OnOk, flat_map};
+ghost use Rattle.std.specs.Prelude.{◌≡◌, ◌<◌, ◌++◌, [], length, slice_index_or, OnOk, flat_map};
 ghost use Rattle.std.specs.String.{string_bytes};
 ghost use Rattle.iq_render.specs.Values.{name_at, then_name, then_number, quoted_byte, quoted, value_text, next_value, values_text, row_line};
 
 use iq_base::Name;
-use iq_model::Out;
+use iq_model::{AnswerRows, Out};
 use std::alloc::AllocError;
 
 /// A name after a space.
@@ -46,26 +46,29 @@ pub(crate) fn push_named(out: &mut String, word: &str, name: &Name) -> Result<()
     push_name(out, name)
 }
 
-/// A row after two spaces, its values joined by commas, and the end of its line.
-pub(crate) fn push_row(out: &mut String, row: &[Out]) -> Result<(), AllocError>
-    ensures { OnOk result (string_bytes out.new ≡ string_bytes out.old ++ row_line row.now) }
+/// Row `r` after two spaces, its values joined by commas, and the end of its line.
+pub(crate) fn push_row(out: &mut String, rows: &AnswerRows, r: usize) -> Result<(), AllocError>
+    requires { r < length rows.now }
+    ensures { OnOk result (string_bytes out.new ≡ string_bytes out.old ++ row_line (slice_index_or rows.now r [])) }
 {
     out.push_str("  ")?;
-    push_values(out, row)?;
+    push_values(out, rows, r)?;
     out.push_str("\n")
 }
 
-/// The values joined by commas.
-fn push_values(out: &mut String, row: &[Out]) -> Result<(), AllocError>
-    ensures { OnOk result (string_bytes out.new ≡ string_bytes out.old ++ values_text row.now) }
+/// The values of row `r` joined by commas.
+fn push_values(out: &mut String, rows: &AnswerRows, r: usize) -> Result<(), AllocError>
+    requires { r < length rows.now }
+    ensures { OnOk result (string_bytes out.new ≡ string_bytes out.old ++ values_text (slice_index_or rows.now r [])) }
 {
-    let [first, others @ ..] = row else {
+    let width = rows.width(r);
+    if width == 0 {
         return Ok(());
-    };
-    push_value(out, first)?;
-    for value in others {
+    }
+    push_value(out, &rows.get(r, 0))?;
+    for c in 1..width {
         out.push_str(",")?;
-        push_value(out, value)?;
+        push_value(out, &rows.get(r, c))?;
     }
     Ok(())
 }
