@@ -1,0 +1,10 @@
+pub mod Ways
+pub mod OneStep
+pub mod Parts
+pub mod Refs
+pub mod Stored
+pub mod Wholes
+pub mod Passed
+pub mod Same
+pub mod Stands
+pub mod Unset
