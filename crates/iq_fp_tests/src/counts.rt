@@ -1,8 +1,9 @@
 //! How many calls of a store each call makes, and what a failed one leaves.
-use crate::columns::{CODES, VALUES, assert_same, ints, numbers, put};
+use crate::columns::{
+    CODES, VALUES, bits, chosen, ints, numbers, paired, put, scanned, value_at, value_of, whole,
+};
 use iq_ast::{Op, Test};
 use iq_base::{Kind, Name, Value};
-use iq_bitmap::Bitmap;
 use iq_cells::Cells;
 use iq_fp::Fp;
 use iq_pages::{MemoryPages, PageFault};
@@ -25,6 +26,11 @@ const CALLS: [u64; 10] = [
     2 * (2 + 3), // a scan of the column with itself
     2 + 3, // all values
 ];
+
+const FAILED: Result<(), PageFault> = Err(PageFault::Failed {
+    before: 0,
+    after: 1,
+});
 
 fn rows(alloc: Global) -> Result<[Cells; 5], Fail> {
     let mut full = Cells::new(alloc, Kind::Int);
@@ -53,30 +59,52 @@ fn step(
     if number < 5 {
         return put(rt, alloc, fp, store, &rows[number]);
     }
-    if number == 5 {
-        let found = fp.scan(alloc, store, test, Side::True)?;
-        assert_eq!(rt; found.count(), 6);
-    } else if number == 6 {
-        assert!(rt; 1_014 < fp.slots);
-        assert_eq!(rt; fp.value(store, 1_014)?, Value::Int(305));
-    } else if number == 7 {
-        let mut chosen = Bitmap::empty(alloc, fp.slots)?;
-        assert!(rt; chosen.len() == fp.slots && 1_008 < fp.slots);
-        chosen.set(504, true);
-        assert!(rt; chosen.len() == fp.slots && 1_007 < chosen.len());
-        chosen.set(1_007, true);
-        assert!(rt; chosen.len() == fp.slots);
-        let got = fp.cells_of(alloc, store, &chosen)?;
-        assert_eq!(rt; got.len(), 2);
-        assert_eq!(rt; (got.get(0), got.get(1)), (Value::Int(4), Value::Int(7)));
-    } else if number == 8 {
-        let right = *fp;
-        let found = fp.scan_pair(alloc, store, Op::Eq, &right, Side::True)?;
-        assert_eq!(rt; found.count(), 1_014);
-    } else {
-        let got = fp.all_cells(alloc, store)?;
-        assert_eq!(rt; got.len(), 1_015);
+    match number {
+        5 => scan(rt, alloc, fp, store, test),
+        6 => {
+            let value = value_of(rt, fp, store, 1_014)?;
+            assert!(rt; value == Value::Int(305));
+            Ok(())
+        }
+        7 => choose(rt, alloc, fp, store),
+        8 => pair(rt, alloc, fp, store),
+        _ => {
+            let got = whole(alloc, fp, store)?;
+            assert_eq!(rt; got.len(), 1_015);
+            Ok(())
+        }
     }
+}
+
+fn scan(
+    rt: &impl Abort,
+    alloc: Global,
+    fp: &Fp,
+    store: &mut MemoryPages,
+    test: &Test,
+) -> Result<(), PageFault> {
+    let found = scanned(alloc, fp, store, test, Side::True)?;
+    assert_eq!(rt; found.count(), 6);
+    Ok(())
+}
+
+fn choose(
+    rt: &impl Abort,
+    alloc: Global,
+    fp: &Fp,
+    store: &mut MemoryPages,
+) -> Result<(), PageFault> {
+    let rows = bits(rt, alloc, fp.slots, &[504, 1_007])?;
+    let got = chosen(rt, alloc, fp, store, &rows)?;
+    assert_eq!(rt; got.len(), 2);
+    assert!(rt; value_at(rt, &got, 0) == Value::Int(4));
+    assert!(rt; value_at(rt, &got, 1) == Value::Int(7));
+    Ok(())
+}
+
+fn pair(rt: &impl Abort, alloc: Global, fp: &Fp, store: &mut MemoryPages) -> Result<(), PageFault> {
+    let found = paired(rt, alloc, fp, store, Op::Eq, fp, Side::True)?;
+    assert_eq!(rt; found.count(), 1_014);
     Ok(())
 }
 
@@ -98,25 +126,18 @@ fn each_page_is_touched_once_and_a_failed_call_changes_no_column(
         for number in 0..10 {
             let before = fp;
             let done = step(&rt, rt.alloc(), &mut fp, &mut store, &rows, &test, number);
-            if calls < call && call <= calls + CALLS[number] {
-                assert_eq!(rt;
-                    done,
-                    Err(PageFault::Failed {
-                        before: 0,
-                        after: 1
-                    }),
-                    "call {call}"
-                );
-                assert_eq!(rt; fp, before, "call {call}");
-                if number != 4 {
-                    step(&rt, rt.alloc(), &mut fp, &mut store, &rows, &test, number)?;
-                } else {
-                    break;
-                }
-            } else {
-                assert_eq!(rt; done, Ok(()), "call {call}, step {number}");
-            }
+            let fails = calls < call && call <= calls + CALLS[number];
             calls += CALLS[number];
+            if !fails {
+                assert_eq!(rt; done, Ok(()), "call {call}, step {number}");
+                continue;
+            }
+            assert_eq!(rt; done, FAILED, "call {call}");
+            assert_eq!(rt; fp, before, "call {call}");
+            if number == 4 {
+                break;
+            }
+            step(&rt, rt.alloc(), &mut fp, &mut store, &rows, &test, number)?;
         }
     }
     Ok(())

@@ -1,5 +1,5 @@
 //! Each test of a row on values and NULL, both sides, beside a plain evaluation row by row.
-use crate::columns::{CODES, column, ints, rows_of, sure};
+use crate::columns::{CODES, VALUES, column, ints, rows_of, scanned, sure};
 use iq_ast::{Op, Test};
 use iq_base::{Kind, Listed, Name, Text, Value};
 use iq_bitmap::Bitmap;
@@ -86,8 +86,8 @@ fn assert_sides(
     test: Test,
     want: [Option<bool>; 9],
 ) -> Result<(), Fail> {
-    let on = fp.scan(alloc, store, &test, Side::True)?;
-    let off = fp.scan(alloc, store, &test, Side::False)?;
+    let on = scanned(alloc, fp, store, &test, Side::True)?;
+    let off = scanned(alloc, fp, store, &test, Side::False)?;
     for i in 0..9 {
         let truth = match want[i] {
             Some(true) => Truth::True,
@@ -112,8 +112,8 @@ fn assert_sides(
         );
     }
     let test = negated(test);
-    let on_other = fp.scan(alloc, store, &test, Side::True)?;
-    let off_other = fp.scan(alloc, store, &test, Side::False)?;
+    let on_other = scanned(alloc, fp, store, &test, Side::True)?;
+    let off_other = scanned(alloc, fp, store, &test, Side::False)?;
     assert_eq!(rt;
         rows_of(alloc, &on_other)?.as_slice(),
         rows_of(alloc, &off)?.as_slice()
@@ -129,7 +129,7 @@ fn assert_sides(
 fn a_comparison_with_a_value(rt: HostRuntime) -> Result<(), Fail> {
     let mut store = sure(rt.alloc());
     let cells = ints(rt.alloc(), Kind::Int, &ROWS)?;
-    let fp = column(&rt, rt.alloc(), &mut store, CODES, &cells)?;
+    let fp = column(&rt, rt.alloc(), &mut store, (CODES, VALUES), &cells)?;
     for op in OPS {
         for literal in LITERALS {
             let test = Test::Compare {
@@ -151,7 +151,7 @@ fn a_comparison_with_a_value(rt: HostRuntime) -> Result<(), Fail> {
 fn a_range_and_a_list_and_null(rt: HostRuntime) -> Result<(), Fail> {
     let mut store = sure(rt.alloc());
     let cells = ints(rt.alloc(), Kind::Int, &ROWS)?;
-    let fp = column(&rt, rt.alloc(), &mut store, CODES, &cells)?;
+    let fp = column(&rt, rt.alloc(), &mut store, (CODES, VALUES), &cells)?;
     for low in LITERALS {
         for high in LITERALS {
             let between = Test::Between {

@@ -1,5 +1,5 @@
 //! Comparisons of two columns, of kinds that differ in width.
-use crate::columns::{column, ints, rows_of, sure, texts};
+use crate::columns::{column, ints, paired, rows_of, sure, texts};
 use iq_ast::Op;
 use iq_base::Kind;
 use iq_truth::Side;
@@ -28,10 +28,10 @@ fn two_columns_are_compared_row_by_row(rt: HostRuntime) -> Result<(), Fail> {
         Kind::Varchar(9),
         &[Some("a"), Some("bcd"), Some(""), None, None, Some("z")],
     )?;
-    let a = column(&rt, rt.alloc(), &mut store, 1, &left)?;
-    let b = column(&rt, rt.alloc(), &mut store, 3, &right)?;
-    let c = column(&rt, rt.alloc(), &mut store, 5, &short)?;
-    let d = column(&rt, rt.alloc(), &mut store, 7, &long)?;
+    let a = column(&rt, rt.alloc(), &mut store, (1, 2), &left)?;
+    let b = column(&rt, rt.alloc(), &mut store, (3, 4), &right)?;
+    let c = column(&rt, rt.alloc(), &mut store, (5, 6), &short)?;
+    let d = column(&rt, rt.alloc(), &mut store, (7, 8), &long)?;
     // Row 0 is equal, row 1 less, row 5 greater; in the others a value is NULL.
     let cases: [(Op, &[u32], &[u32]); 6] = [
         (Op::Eq, &[0], &[1, 5]),
@@ -43,10 +43,9 @@ fn two_columns_are_compared_row_by_row(rt: HostRuntime) -> Result<(), Fail> {
     ];
     for (op, on, off) in &cases {
         for (left, right) in [(&a, &b), (&c, &d)] {
-            assert!(rt; left.slots == right.slots);
-            let found = left.scan_pair(rt.alloc(), &mut store, *op, right, Side::True)?;
+            let found = paired(&rt, rt.alloc(), left, &mut store, *op, right, Side::True)?;
             assert_eq!(rt; rows_of(rt.alloc(), &found)?.as_slice(), *on, "{op:?}");
-            let others = left.scan_pair(rt.alloc(), &mut store, *op, right, Side::False)?;
+            let others = paired(&rt, rt.alloc(), left, &mut store, *op, right, Side::False)?;
             assert_eq!(rt; rows_of(rt.alloc(), &others)?.as_slice(), *off, "{op:?}");
         }
     }

@@ -1,86 +1,90 @@
 //! Columns around the numbers of distinct values at which codes become wider.
-use crate::columns::{CODES, VALUES, assert_same, ints, numbers, put, sure};
+use crate::columns::{
+    CODES, VALUES, assert_same, chosen, ints, numbers, put, scanned, sure, value_at, value_of,
+    whole,
+};
 use iq_ast::{Op, Test};
 use iq_base::{Kind, Name, Value};
 use iq_fp::{Fp, code_bytes};
+use iq_pages::MemoryPages;
 use iq_truth::Side;
+use std::alloc::Global;
+use std::process::Abort;
 use std::test::Fail;
+
+// A column of NULL, of so many numbers from 0 on, of all of these once more, and of NULL.
+fn filled(rt: &impl Abort, alloc: Global, store: &mut MemoryPages, count: i64) -> Result<Fp, Fail> {
+    let mut fp = Fp::empty(CODES, VALUES, Kind::Int);
+    let null = ints(alloc, Kind::Int, &[None])?;
+    let all = numbers(alloc, Kind::Int, 0, count)?;
+    put(rt, alloc, &mut fp, store, &null)?;
+    put(rt, alloc, &mut fp, store, &all)?;
+    put(rt, alloc, &mut fp, store, &all)?;
+    put(rt, alloc, &mut fp, store, &null)?;
+    Ok(fp)
+}
+
+// A row of it, by itself and among all.
+fn assert_row(
+    rt: &impl Abort,
+    alloc: Global,
+    fp: &Fp,
+    store: &mut MemoryPages,
+    row: u32,
+    want: &Value,
+) -> Result<(), Fail> {
+    let got = whole(alloc, fp, store)?;
+    assert_eq!(rt; got.len(), fp.slots as usize);
+    assert_eq!(rt; value_of(rt, fp, store, row)?, want.again(), "row {row}");
+    assert_eq!(rt; value_at(rt, &got, row as usize), want.again(), "row {row}");
+    Ok(())
+}
+
+// How many rows are at least a number, and how many below it.
+fn assert_found(
+    rt: &impl Abort,
+    alloc: Global,
+    fp: &Fp,
+    store: &mut MemoryPages,
+    least: i64,
+    want: (u32, u32),
+) -> Result<(), Fail> {
+    let test = Test::Compare {
+        column: Name::of("c").ok_or("too long")?,
+        op: Op::Ge,
+        value: Value::Int(least),
+    };
+    let found = scanned(alloc, fp, store, &test, Side::True)?;
+    let others = scanned(alloc, fp, store, &test, Side::False)?;
+    assert_eq!(rt; (found.count(), others.count()), want);
+    let values = chosen(rt, alloc, fp, store, &found)?;
+    assert_eq!(rt; values.len(), want.0 as usize);
+    Ok(())
+}
 
 #[test]
 fn values_come_back_in_each_form(rt: HostRuntime) -> Result<(), Fail> {
-    // So many numbers with NULL before them, then all of them once more; and how many bytes a code has.
-    let cases: [(i64, u32, usize); 5] = [
+    // So many numbers; how many distinct values with NULL, and how many bytes a code has.
+    let cases: [(i64, u32, usize); 4] = [
         (255, 256, 1),
         (256, 257, 2),
         (65_535, 65_536, 2),
         (65_536, 65_537, 3),
-        (0, 1, 1),
     ];
-    for (count, distinct, bytes) in cases.iter() {
+    for (count, distinct, bytes) in &cases {
         let mut store = sure(rt.alloc());
-        let mut fp = Fp::empty(CODES, VALUES, Kind::Int);
-        let null = ints(rt.alloc(), Kind::Int, &[None])?;
-        let all = numbers(rt.alloc(), Kind::Int, 0, *count)?;
-        put(&rt, rt.alloc(), &mut fp, &mut store, &null)?;
-        put(&rt, rt.alloc(), &mut fp, &mut store, &all)?;
-        put(&rt, rt.alloc(), &mut fp, &mut store, &all)?;
-        put(&rt, rt.alloc(), &mut fp, &mut store, &null)?;
-        assert_eq!(rt; fp.distinct, *distinct);
-        assert_eq!(rt; code_bytes(fp.distinct), *bytes);
-        let got = fp.all_cells(rt.alloc(), &mut store)?;
-        assert_eq!(rt; got.len(), 2 * *count as usize + 2);
-        assert_eq!(rt; fp.slots as usize, got.len());
-        for (row, want) in [
-            (0, Value::Null),
-            (fp.slots - 1, Value::Null),
-            (
-                1,
-                if *count == 0 {
-                    Value::Null
-                } else {
-                    Value::Int(0)
-                },
-            ),
-            (
-                fp.slots / 2,
-                if *count == 0 {
-                    Value::Null
-                } else {
-                    Value::Int(0)
-                },
-            ),
-            (
-                fp.slots.max(2) - 2,
-                if *count == 0 {
-                    Value::Null
-                } else {
-                    Value::Int(*count - 1)
-                },
-            ),
-        ] {
-            assert!(rt; row < fp.slots && (row as usize) < got.len());
-            assert_eq!(rt;
-                fp.value(&mut store, row)?,
-                want.again(),
-                "row {row} of {count}"
-            );
-            assert_eq!(rt; got.get(row as usize), want, "row {row} of {count}");
-        }
-        let test = Test::Compare {
-            column: Name::of("c").ok_or("too long")?,
-            op: Op::Ge,
-            value: Value::Int(*count - 3),
-        };
-        let found = fp.scan(rt.alloc(), &mut store, &test, Side::True)?;
-        assert_eq!(rt; found.count(), 2 * (*count).min(3) as u32, "{count}");
-        let others = fp.scan(rt.alloc(), &mut store, &test, Side::False)?;
-        assert_eq!(rt; others.count(), 2 * (*count - 3).max(0) as u32, "{count}");
-        assert!(rt; found.len() == fp.slots);
-        let chosen = fp.cells_of(rt.alloc(), &mut store, &found)?;
-        assert_eq!(rt; chosen.len(), found.count() as usize);
-        for i in 0..chosen.len() {
-            assert!(rt; !chosen.is_null(i));
-        }
+        let fp = filled(&rt, rt.alloc(), &mut store, *count)?;
+        assert_eq!(rt; (fp.distinct, code_bytes(fp.distinct)), (*distinct, *bytes));
+        let last = Value::Int(*count - 1);
+        let end = fp.slots.max(2);
+        assert_row(&rt, rt.alloc(), &fp, &mut store, 0, &Value::Null)?;
+        assert_row(&rt, rt.alloc(), &fp, &mut store, end - 1, &Value::Null)?;
+        assert_row(&rt, rt.alloc(), &fp, &mut store, 1, &Value::Int(0))?;
+        assert_row(&rt, rt.alloc(), &fp, &mut store, end / 2, &Value::Int(0))?;
+        assert_row(&rt, rt.alloc(), &fp, &mut store, end - 2, &last)?;
+        let most = *distinct * 2;
+        assert!(rt; 8 < most);
+        assert_found(&rt, rt.alloc(), &fp, &mut store, *count - 3, (6, most - 8))?;
     }
     Ok(())
 }
@@ -89,17 +93,16 @@ fn values_come_back_in_each_form(rt: HostRuntime) -> Result<(), Fail> {
 fn one_statement_widens_codes_from_one_byte_to_three(rt: HostRuntime) -> Result<(), Fail> {
     let mut store = sure(rt.alloc());
     let mut fp = Fp::empty(CODES, VALUES, Kind::Big);
-    let first = ints(rt.alloc(), Kind::Big, &[Some(9), None, Some(9), Some(-1)])?;
+    let mut want = ints(rt.alloc(), Kind::Big, &[Some(9), None, Some(9), Some(-1)])?;
     let more = numbers(rt.alloc(), Kind::Big, -1, 65_600)?;
-    put(&rt, rt.alloc(), &mut fp, &mut store, &first)?;
+    put(&rt, rt.alloc(), &mut fp, &mut store, &want)?;
     assert_eq!(rt; code_bytes(fp.distinct), 1);
     put(&rt, rt.alloc(), &mut fp, &mut store, &more)?;
     assert_eq!(rt; (fp.distinct, code_bytes(fp.distinct)), (65_602, 3));
-    let mut want = ints(rt.alloc(), Kind::Big, &[Some(9), None, Some(9), Some(-1)])?;
     for number in -1..65_600 {
         want.push_number(number).map_err(|_| "no BIGINT")?;
     }
-    let got = fp.all_cells(rt.alloc(), &mut store)?;
+    let got = whole(rt.alloc(), &fp, &mut store)?;
     assert_same(&rt, &got, &want);
     Ok(())
 }
