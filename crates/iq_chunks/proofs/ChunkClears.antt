@@ -1,5 +1,5 @@
 -- Rows of an object that are cleared, chunk by chunk.
-use Rattle.std.proofs.Common.{◌≡◌, ◌≢◌, ◌<◌, ◌≤◌, ℕ, zero, suc, ◌+◌, ◌-◌, ◌*◌, ◌/◌, ◌%◌, inl, inr, Bool, true, false, ◌&&◌, not, List, [], ◌∷◌, Option, Some, None, IfSome, length, get_or, set, slice_set, replicate, refl, sym, ap, ap₂, ◌∙◌, subst, arith}
+use Rattle.std.proofs.Common.{◌≡◌, ◌<◌, ◌≤◌, ℕ, zero, suc, ◌+◌, ◌-◌, ◌*◌, inl, inr, Bool, true, false, ◌&&◌, not, List, [], ◌∷◌, Option, Some, None, length, get_or, slice_set, replicate, refl, sym, ap, ap₂, ◌∙◌, subst, arith}
 use Rattle.std.specs.Prelude.{◌⊎◌, map, if◌then◌else◌}
 use Rattle.std.specs.List.{range_with_len, list_any, sum_by}
 use Rattle.std.specs.Option.{option_map}
@@ -15,7 +15,7 @@ use Rattle.iq_pages.proofs.PageLaws.{rose_since}
 use Rattle.iq_bitmap.specs.Bits.{page_bits, chunk_of, difference}
 use Rattle.iq_bitmap.proofs.Chunks.{length-page_bits, length-chunk_of, get_or-chunk_of}
 use Rattle.iq_pieces.specs.Objects.{page_at}
-use Rattle.iq_chunks.specs.Chunks.{chunks_for, hit_in, chunks_hit, HoldsChunk, HoldsBits, ClearsBits, ChunkCleared, ClearsChunk, LacksPage, HasBitsCause}
+use Rattle.iq_chunks.specs.Chunks.{chunks_for, hit_in, HoldsBits, ClearsBits, ClearsChunk, LacksPage, HasBitsCause}
 
 -- a row of a difference, also past the end
 difference_at : (xs ys : List Bool) (i : ℕ) → length xs ≡ length ys → get_or (difference xs ys) i false ≡ (get_or xs i false && not (get_or ys i false))

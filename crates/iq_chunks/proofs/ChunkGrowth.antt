@@ -1,5 +1,5 @@
 -- More rows behind those of an object.
-use Rattle.std.proofs.Common.{◌≡◌, ◌<◌, ◌≤◌, ℕ, zero, suc, ◌+◌, ◌-◌, ◌*◌, ◌/◌, ◌%◌, max, min, inl, inr, Bool, true, false, List, [], ◌++◌, append_assoc, append-nil, Option, Some, length, get_or, replicate, refl, sym, ap, ◌∙◌, arith}
+use Rattle.std.proofs.Common.{◌≡◌, ◌<◌, ◌≤◌, ℕ, zero, suc, ◌+◌, ◌-◌, ◌*◌, ◌/◌, ◌%◌, inl, inr, Bool, true, false, List, [], ◌++◌, append_assoc, append-nil, Option, length, get_or, replicate, refl, sym, ap, ◌∙◌, arith}
 use Rattle.std.proofs.lemmas.Bool.{cases_lt}
 use Rattle.std.proofs.lemmas.List.{ext_get_or, length-append, length-replicate, get_or_append_left, get_or-append-add, get_or-replicate, get_or_past}
 use Rattle.std.proofs.lemmas.Option.{get_or_from_slice_get}
@@ -8,7 +8,7 @@ use Rattle.iq_bitmap.specs.Bits.{page_bits, chunk_of}
 use Rattle.iq_bitmap.proofs.Chunks.{length-page_bits, length-chunk_of, get_or-chunk_of}
 use Rattle.iq_pieces.specs.Objects.{page_at, put_page, SavesPage}
 use Rattle.iq_pieces.proofs.PutPage.{put_here, put_before, put_length}
-use Rattle.iq_chunks.specs.Chunks.{chunks_for, chunks_changed, HoldsChunk, HoldsBits, AppendsOnes, SetsRows}
+use Rattle.iq_chunks.specs.Chunks.{chunks_for, chunks_changed, HoldsBits, AppendsOnes, SetsRows}
 use Rattle.iq_chunks.proofs.PageRows.{page_bits-zeros}
 
 -- bits with ones behind them

@@ -1,5 +1,5 @@
 -- Reading the chunks of an object.
-use Rattle.std.proofs.Common.{◌≡◌, ◌<◌, ◌≤◌, ℕ, ◌+◌, ◌-◌, ◌*◌, ◌/◌, ◌%◌, inl, inr, Bool, false, List, [], Option, Some, None, IfSome, length, get_or, refl, sym, ap, ap₂, ◌∙◌, arith}
+use Rattle.std.proofs.Common.{◌≡◌, ◌<◌, ◌≤◌, ℕ, ◌+◌, ◌-◌, ◌*◌, ◌/◌, ◌%◌, inl, inr, Bool, false, List, [], Option, Some, None, length, get_or, refl, sym, ap, ap₂, ◌∙◌, arith}
 use Rattle.std.proofs.lemmas.Bool.{cases_lt}
 use Rattle.std.proofs.lemmas.List.{ext_get_or}
 use Rattle.std.proofs.lemmas.Option.{get_or_from_slice_get}
@@ -11,7 +11,7 @@ use Rattle.iq_bitmap.specs.Bits.{page_bits, with_chunk}
 use Rattle.iq_bitmap.proofs.Chunks.{length-page_bits, length-with_chunk, get_or-with_chunk_in, get_or-with_chunk_out, get_or-chunk_of}
 use Rattle.iq_pieces.specs.Objects.{page_at}
 use Rattle.iq_pieces.specs.Faults.{HasPage, HasPageCause}
-use Rattle.iq_chunks.specs.Chunks.{chunks_for, HoldsChunk, HoldsBits, GivesBits, LacksPage, HasBitsCause}
+use Rattle.iq_chunks.specs.Chunks.{chunks_for, GivesBits, LacksPage, HasBitsCause}
 
 -- where the pages are told, the rows below a number are theirs
 abbrev pub AreLoaded : Option Pages → ℕ → List Bool → Type 0

@@ -1,5 +1,5 @@
 -- Objects whose pages hold the bits of rows, and what reading and changing them gives.
-use Rattle.std.specs.Prelude.{◌≡◌, ◌<◌, ◌≤◌, ℕ, zero, suc, ◌+◌, ◌-◌, ◌*◌, ◌/◌, ◌⊎◌, Bool, true, false, List, [], ◌++◌, Option, Some, None, length, map, replicate, slice_index_or, if◌then◌else◌, ⊤}
+use Rattle.std.specs.Prelude.{◌≡◌, ◌<◌, ◌≤◌, ℕ, zero, suc, ◌+◌, ◌-◌, ◌/◌, ◌⊎◌, Bool, true, false, List, ◌++◌, Option, Some, None, length, map, replicate, slice_index_or, if◌then◌else◌, ⊤}
 use Rattle.std.specs.List.{range_with_len, list_any, sum_by}
 use Rattle.std.specs.Int.{div_ceil}
 use Rattle.iq_outside.specs.Faults.{RoseWithin}

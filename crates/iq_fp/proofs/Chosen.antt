@@ -2,7 +2,7 @@
 use Rattle.std.proofs.Common.{◌≡◌, ◌<◌, ◌≤◌, ℕ, zero, suc, ◌+◌, ◌-◌, ◌*◌, ◌/◌, ◌%◌, min, inl, inr, Bool, true, false, if◌then◌else◌, List, [], ◌∷◌, ◌++◌, map, Option, length, slice_index, slice_index_or, append-nil, zero-add, refl, sym, ap, ◌∙◌, arith}
 use Rattle.std.proofs.Math.Nat.{mul-le-mul_left}
 use Rattle.std.proofs.lemmas.Bool.{cases_lt}
-use Rattle.std.proofs.lemmas.List.{map-append}
+use Rattle.std.proofs.lemmas.List.{map-append, length-append, length-map}
 use Rattle.iq_base.specs.declared.values.Value.{Value}
 use Rattle.iq_bitmap.specs.Bits.{IsNextSet, HasNoneFrom, rows_from}
 use Rattle.iq_pages.specs.Pages.{Pages, IsPageOf}
@@ -119,6 +119,36 @@ chosen_next fp told rows known w p row n page got got' some wide long next is si
     ∙ ap (λ (vs : List Value). map value (set_rows rows 0 (per * q)) ++ vs) (same ∙ ap (λ (k : ℕ). map value (set_rows rows k n)) (sym origin))
     ∙ sym (map-append value (set_rows rows 0 (per * q)) (set_rows rows (0 + per * q) n))
     ∙ ap (map value) (sym (set_rows_on rows 0 (per * q) n) ∙ ap (set_rows rows 0) end)
+
+-- and as many
+pub chosen_long : (rows : List Bool) (w p row n slots : ℕ) (got got' : List Value) (f : ℕ → Value) → 0 < per_page w → length rows ≡ slots → IsNextSet rows (min slots (per_page w * p)) row → n ≡ min (per_page w) (slots - per_page w * (row / per_page w)) → got' ≡ got ++ map f (set_rows rows (per_page w * (row / per_page w)) n) → length got ≡ length (set_rows rows 0 (min slots (per_page w * p))) → length got' ≡ length (set_rows rows 0 (min slots (per_page w * (row / per_page w + 1))))
+chosen_long rows w p row n slots got got' f some long next size more so_far =
+    let per = per_page w in
+    let q = row / per in
+    let from = min slots (per * p) in
+    let less : row < slots = omega (arith, next.within, long) in
+    let onward : p ≤ q = page_onward per p row slots some next.onward less in
+    let up : per * p ≤ per * q = mul-le-mul_left per onward in
+    let begins : per * q ≤ row = omega arith in
+    let d = per * q - from in
+    let gap : from + d ≡ per * q = omega (arith, up, begins, next.onward) in
+    let end : per * q + n ≡ min slots (per * (q + 1)) = omega (arith, size, begins, less) in
+    let passed : set_rows rows (0 + from) d ≡ [] = none_set rows (0 + from) d (λ i l b. next.before i (omega arith) (omega (arith, gap, begins))) in
+    let before : set_rows rows 0 (per * q) ≡ set_rows rows 0 from = ap (set_rows rows 0) (sym gap) ∙ set_rows_on rows 0 from d ∙ ap (λ (rs : List ℕ). set_rows rows 0 from ++ rs) passed ∙ append-nil (set_rows rows 0 from) in
+    let here : length got' ≡ length got + length (set_rows rows (per * q) n) = ap length more ∙ length-append got (map f (set_rows rows (per * q) n)) ∙ ap (λ (k : ℕ). length got + k) (length-map (set_rows rows (per * q) n) f) in
+    let origin : 0 + per * q ≡ per * q = omega arith in
+    let whole : length (set_rows rows 0 (per * q + n)) ≡ length (set_rows rows 0 from) + length (set_rows rows (per * q) n) =
+    ap length (set_rows_on rows 0 (per * q) n) ∙ length-append (set_rows rows 0 (per * q)) (set_rows rows (0 + per * q) n)
+    ∙ ap (λ (rs : List ℕ). length rs + length (set_rows rows (0 + per * q) n)) before ∙ ap (λ (k : ℕ). length (set_rows rows 0 from) + length (set_rows rows k n)) origin in
+    let joined : length got' ≡ length (set_rows rows 0 (per * q + n)) = omega (arith, here, whole, so_far) in
+    joined ∙ ap (λ (k : ℕ). length (set_rows rows 0 k)) end
+
+pub all_long : (rows : List Bool) (from : ℕ) (got : List Value) → from ≤ length rows → HasNoneFrom rows from → length got ≡ length (set_rows rows 0 from) → length got ≡ length (rows_from 0 rows)
+all_long rows from got less none so_far =
+    let d = length rows - from in
+    let whole : from + d ≡ length rows = omega arith in
+    let passed : set_rows rows (0 + from) d ≡ [] = none_set rows (0 + from) d (λ i l b. none i (omega arith)) in
+    so_far ∙ ap length (sym (all_rows rows ∙ ap (set_rows rows 0) (sym whole) ∙ set_rows_on rows 0 from d ∙ ap (λ (rs : List ℕ). set_rows rows 0 from ++ rs) passed ∙ append-nil (set_rows rows 0 from)))
 
 -- so all of them are, where no more is set
 pub all_chosen : (fp : Fp) (told : ℕ → Option Pages) (rows : List Bool) (known : List Value) (from : ℕ) (got : List Value) → from ≤ length rows → HasNoneFrom rows from → AreChosenTo fp told rows known from got → AreChosen fp told rows known got

@@ -1,6 +1,7 @@
 //! The values of chosen rows of a column.
 ghost use Rattle.std.specs.Prelude.{◌≡◌, ◌<◌, ◌≤◌, ◌+◌, ◌++◌, ◌^◌, ℕ, length, map, OnOk, IfOk, IfErr};
 ghost use Rattle.iq_pages.specs.PageCalls.{view};
+ghost use Rattle.iq_bitmap.specs.Bits.{rows_from};
 ghost use Rattle.iq_pieces.specs.Counts.{per_page, pages_for, OnlyReads};
 ghost use Rattle.iq_pieces.specs.Faults.{CodesBelow};
 ghost use Rattle.iq_pieces.specs.Taking.{HasPieceCause};
@@ -28,6 +29,7 @@ impl Fp {
     ) -> Result<Cells, PageFault>
         requires { length rows.now ≡ self.now.slots }
         ensures kind { IfOk result (λ cells. cells.kind ≡ self.now.kind) }
+        ensures long { IfOk result (λ cells. length cells.values ≡ length (rows_from 0 rows.now)) }
         ensures values { IfOk result (λ cells. AreValuesOfRows self.now (S.told source.old) rows.now cells.values) }
         ensures reads { OnlyReads (all_pages self.now) (view S.PageSource source.old) (view S.PageSource source.new) }
         ensures cause { IfErr result (HasReadCause self.now (view S.PageSource source.old) (view S.PageSource source.new)) }
@@ -48,6 +50,7 @@ fn chosen<S: PageSource>(
     requires rows { length rows.now ≡ fp.now.slots }
     requires known { length known.now.values ≡ fp.now.distinct }
     ensures kind { IfOk result (λ cells. cells.kind ≡ known.now.kind) }
+    ensures long { IfOk result (λ cells. length cells.values ≡ length (rows_from 0 rows.now)) }
     ensures values { IfOk result (λ cells. AreChosen fp.now (S.told source.old) rows.now known.now.values cells.values) }
     ensures reads { OnlyReads (pages_for (code_width fp.now.distinct) fp.now.slots) (view S.PageSource source.old) (view S.PageSource source.new) }
     ensures cause { IfErr result (HasReadCause fp.now (view S.PageSource source.old) (view S.PageSource source.new)) }
@@ -72,6 +75,7 @@ fn chosen_in_width<S: PageSource, const W: usize>(
     requires rows { length rows.now ≡ fp.now.slots }
     requires known { length known.now.values ≡ fp.now.distinct }
     ensures kind { IfOk result (λ cells. cells.kind ≡ known.now.kind) }
+    ensures long { IfOk result (λ cells. length cells.values ≡ length (rows_from 0 rows.now)) }
     ensures values { IfOk result (λ cells. AreChosen fp.now (S.told source.old) rows.now known.now.values cells.values) }
     ensures reads { OnlyReads (pages_for W fp.now.slots) (view S.PageSource source.old) (view S.PageSource source.new) }
     ensures cause { IfErr result (HasReadCause fp.now (view S.PageSource source.old) (view S.PageSource source.new)) }

@@ -1,20 +1,17 @@
 -- Columns that grow, one after the other.
-use Rattle.std.proofs.Common.{◌≡◌, ◌≢◌, ◌<◌, ◌≤◌, ℕ, zero, suc, ◌+◌, ◌-◌, ◌*◌, ◌/◌, ◌^◌, inl, inr, Bool, true, List, [], ◌∷◌, ◌++◌, take, drop, Option, Some, None, length, map, get_or, refl, sym, ap, ◌∙◌, subst, arith}
+use Rattle.std.proofs.Common.{◌≡◌, ◌<◌, ◌≤◌, ℕ, ◌+◌, ◌*◌, inl, inr, true, List, [], ◌∷◌, ◌++◌, take, drop, Option, length, refl, sym, ap, ◌∙◌, subst, arith}
 use Rattle.std.specs.Prelude.{◌⊎◌}
-use Rattle.std.specs.List.{sum_by}
 use Rattle.std.proofs.lemmas.Bool.{cases_lt}
-use Rattle.std.proofs.lemmas.List.{length-append, length-take, get_or_append_left, get_or-append-add, take_more, take_all, take-append-drop, map-append}
+use Rattle.std.proofs.lemmas.List.{length-take, get_or_append_left, get_or-append-add, take_more, take-append-drop}
 use Rattle.std.proofs.lemmas.List.Sums.{sum_by-append}
 use Rattle.iq_base.specs.declared.values.Kind.{Kind}
 use Rattle.iq_base.specs.declared.values.Kind.TheVariants.{Int}
 use Rattle.iq_base.specs.declared.values.Value.{Value}
 use Rattle.iq_base.specs.declared.descriptors.ColumnPart.{ColumnPart}
-use Rattle.iq_base.specs.declared.descriptors.Descriptor.{Descriptor}
 use Rattle.iq_pages.specs.declared.page_faults.PageFault.{PageFault}
 use Rattle.iq_pages.specs.declared.page_faults.PageFault.TheVariants.{Failed, BadPage, NoMemory}
 use Rattle.iq_pages.specs.Pages.{Pages, Seen, CountsMore}
 use Rattle.iq_pages.proofs.PageLaws.{rose_since, counts_on}
-use Rattle.iq_pieces.specs.Counts.{CountsUpTo}
 use Rattle.iq_pieces.specs.Faults.{HasSoundPage, CodesBelow, CellsOf}
 use Rattle.iq_cells.specs.Tables.{column_of}
 use Rattle.iq_fp.specs.declared.fp.Fp.{Fp}
@@ -22,7 +19,7 @@ use Rattle.iq_fp.specs.Forms.{code_width}
 use Rattle.iq_fp.specs.Stands.{Stands}
 use Rattle.iq_fp.specs.Calls as fps
 use Rattle.iq_fp.proofs.Growth.{stands_there, more_still}
-use Rattle.iq_table.specs.Places.{existence_of, codes_of, values_of, new_part, part_at, fp_of, fp_at}
+use Rattle.iq_table.specs.Places.{codes_of, values_of, new_part, part_at, fp_of}
 use Rattle.iq_table.specs.Calls.{IsPartGrown, ColumnsStandForMore, KeepsButColumns, HasColumnsCause, columns_read, columns_written}
 
 -- no column has changed yet
@@ -148,12 +145,15 @@ column_cause place slots c parts a b d (Failed x y) within kept later h = rose_s
 column_cause place slots c parts a b d (BadPage named page) within kept later h =
     let part = part_at c parts in
     let ec = next_codes place c a b kept in
-    let ev = next_values place c a b kept in
-    (c, within, elim h [
-      | inl read ↦ inl (elim read [
-        | inl codes ↦ inl (codes.0, subst (λ (o : Option Pages). ¬ (HasSoundPage (CodesBelow (code_width part.distinct) part.distinct) slots o page)) ec codes.1)
-        | inr values ↦ inr (values.0, subst (λ (o : Option Pages). ¬ (HasSoundPage (CellsOf part.kind) part.distinct o page)) ev values.1)
-      ])
-      | inr none ↦ inr (none.0, λ values stands. none.1 values (stands_there (fp_of place slots c part) a.told b.told values ec ev stands))
-    ])
+    let ev = next_values place c a b kept in (
+      c,
+      within,
+      elim h [
+        | inl read ↦ inl (elim read [
+          | inl codes ↦ inl (codes.0, subst (λ (o : Option Pages). ¬ (HasSoundPage (CodesBelow (code_width part.distinct) part.distinct) slots o page)) ec codes.1)
+          | inr values ↦ inr (values.0, subst (λ (o : Option Pages). ¬ (HasSoundPage (CellsOf part.kind) part.distinct o page)) ev values.1)
+        ])
+        | inr none ↦ inr (none.0, λ values stands. none.1 values (stands_there (fp_of place slots c part) a.told b.told values ec ev stands))
+      ],
+    )
 column_cause place slots c parts a b d NoMemory within kept later h = tt

@@ -3,4 +3,5 @@ pub mod Moves
 pub mod Making
 pub mod Growth
 pub mod TableGrowth
+pub mod Readings
 pub mod Removals

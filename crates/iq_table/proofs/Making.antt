@@ -1,12 +1,9 @@
 -- A table whose objects were made stands for no rows.
-use Rattle.std.proofs.Common.{◌≡◌, ◌≢◌, ◌<◌, ◌≤◌, ℕ, zero, suc, ◌+◌, ◌*◌, ◌/◌, ◌^◌, inl, inr, Bool, List, [], Option, Some, None, IsSome, length, map, refl, sym, ap, ◌∙◌, subst, arith}
+use Rattle.std.proofs.Common.{◌≡◌, ◌≢◌, ◌<◌, ◌≤◌, ℕ, ◌+◌, ◌*◌, ◌/◌, inl, inr, [], Option, Some, None, IsSome, length, refl, sym, ap, ◌∙◌, arith}
 use Rattle.std.specs.Prelude.{◌⊎◌}
 use Rattle.std.specs.Option.{option_map}
 use Rattle.std.proofs.lemmas.Bool.{cases_lt}
 use Rattle.std.proofs.Math.Nat.{le-div_iff_mul-le}
-use Rattle.iq_base.specs.declared.values.Value.{Value}
-use Rattle.iq_base.specs.declared.descriptors.ColumnPart.{ColumnPart}
-use Rattle.iq_base.specs.declared.descriptors.Descriptor.{Descriptor}
 use Rattle.iq_base.specs.Cells.{width}
 use Rattle.iq_pages.specs.declared.page_faults.PageFault.{PageFault}
 use Rattle.iq_pages.specs.declared.page_faults.PageFault.TheVariants.{Failed, BadPage, NoMemory}
@@ -14,15 +11,13 @@ use Rattle.iq_pages.specs.Pages.{Pages, Seen, HasCause}
 use Rattle.iq_pages.proofs.PageLaws.{rose_since}
 use Rattle.iq_pieces.specs.Counts.{per_page}
 use Rattle.iq_pieces.specs.Objects.{HoldsObject}
-use Rattle.iq_numbering.specs.Numbers.{IsNumbered}
-use Rattle.iq_chunks.specs.Chunks.{HoldsBits}
 use Rattle.iq_fp.specs.declared.fp.Fp.{Fp}
 use Rattle.iq_fp.specs.Forms.{code_width}
 use Rattle.iq_fp.specs.Stands.{Stands}
 use Rattle.iq_table.specs.declared.table.Table.{Table}
 use Rattle.iq_table.specs.Places.{existence_of, codes_of, values_of, part_at, fp_at}
 use Rattle.iq_table.specs.Table.{TableStands}
-use Rattle.iq_table.specs.Calls.{IsUnused, IsObjectOf, TellsObjects, KeepsOtherTables, HasMakeCause}
+use Rattle.iq_table.specs.Calls.{IsUnused, TellsObjects, KeepsOtherTables, HasMakeCause}
 
 -- the objects from one number on up to another have no pages, where they are told, and each other is as before
 pub record AreMade (first behind : ℕ) (before after : Seen) : Type 0 where

@@ -1,5 +1,5 @@
 -- What a table stands for is moved with its pages, and kept where they are kept.
-use Rattle.std.proofs.Common.{◌≡◌, ◌≢◌, ◌<◌, ◌≤◌, ℕ, zero, suc, ◌+◌, ◌*◌, ◌/◌, ◌^◌, Bool, List, [], Option, length, map, slice_index, zero-add, inl, inr, refl, sym, ap, ◌∙◌, subst, arith}
+use Rattle.std.proofs.Common.{◌≡◌, ◌<◌, ◌≤◌, ℕ, zero, suc, ◌+◌, ◌*◌, Bool, List, Option, length, map, slice_index, zero-add, inl, inr, sym, ap, ◌∙◌, subst, arith}
 use Rattle.std.proofs.lemmas.Bool.{cases_lt}
 use Rattle.byteorder.specs.Endian.{little_bytes}
 use Rattle.iq_base.specs.declared.values.Value.{Value}
@@ -15,7 +15,7 @@ use Rattle.iq_fp.specs.declared.fp.Fp.{Fp}
 use Rattle.iq_fp.specs.Forms.{code_width}
 use Rattle.iq_fp.specs.Stands.{Stands}
 use Rattle.iq_fp.specs.Calls.{StandsForNone}
-use Rattle.iq_table.specs.Places.{existence_of, codes_of, values_of, part_at, fp_of, fp_at}
+use Rattle.iq_table.specs.Places.{existence_of, codes_of, values_of, part_at, fp_of}
 use Rattle.iq_table.specs.Table.{TableStands, SameObjectsAt}
 
 -- a column stands for its values wherever its two objects have the same pages
@@ -44,11 +44,11 @@ table_moved told told' place place' parts rows alive same s =
       shapes = s.shapes;
       existence = subst (λ (o : Option Pages). HoldsBits o alive) (sym (at 0 (existence_of place) (existence_of place') (omega arith) (omega arith) (omega arith))) s.existence;
       columns = λ c h. (
-      let few : c < 32 = omega (arith, s.few) in
-      column_moved place place' parts.slots c (part_at c parts.columns) told told' (column_of c rows)
-      (at (1 + 2 * c) (codes_of place c) (codes_of place' c) (omega arith) (omega arith) (omega arith))
-      (at (2 + 2 * c) (values_of place c) (values_of place' c) (omega arith) (omega arith) (omega arith))
-      (s.columns c h));
+          let few : c < 32 = omega (arith, s.few) in
+          column_moved place place' parts.slots c (part_at c parts.columns) told told' (column_of c rows)
+          (at (1 + 2 * c) (codes_of place c) (codes_of place' c) (omega arith) (omega arith) (omega arith))
+          (at (2 + 2 * c) (values_of place c) (values_of place' c) (omega arith) (omega arith) (omega arith))
+          (s.columns c h));
       forms = s.forms;
     }
 

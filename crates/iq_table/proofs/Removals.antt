@@ -1,21 +1,19 @@
 -- Rows that are removed.
-use Rattle.std.proofs.Common.{◌≡◌, ◌≢◌, ◌<◌, ◌≤◌, ℕ, zero, suc, ◌+◌, ◌*◌, ◌/◌, ◌%◌, min, Bool, false, ◌&&◌, not, List, Option, length, map, get_or, replicate, inl, inr, refl, sym, ap, ◌∙◌, subst, arith}
+use Rattle.std.proofs.Common.{◌≡◌, ◌≢◌, ◌<◌, ℕ, zero, suc, ◌+◌, ◌*◌, Bool, false, ◌&&◌, not, List, Option, length, map, get_or, replicate, inl, inr, refl, sym, ap, ◌∙◌, subst, arith}
 use Rattle.std.specs.List.{range_with_len, sum_by}
 use Rattle.std.proofs.lemmas.List.{ext_get_or, length-replicate, get_or-replicate, get_or_past}
 use Rattle.std.proofs.lemmas.Bool.{cases_lt}
 use Rattle.std.proofs.lemmas.Simd.{length-zip2}
-use Rattle.iq_base.specs.declared.values.Value.{Value}
-use Rattle.iq_pages.specs.Pages.{Pages, Seen}
+use Rattle.iq_pages.specs.Pages.{Pages}
 use Rattle.iq_bitmap.specs.Bits.{chunk_of, difference}
 use Rattle.iq_bitmap.proofs.Chunks.{length-chunk_of, get_or-chunk_of}
-use Rattle.iq_pieces.specs.Counts.{KeepsOthers}
 use Rattle.iq_cells.specs.Tables.{column_of}
-use Rattle.iq_chunks.specs.Chunks.{chunks_for, hit_in, chunks_hit, HoldsBits, ClearsBits}
+use Rattle.iq_chunks.specs.Chunks.{chunks_for, hit_in, chunks_hit, ClearsBits}
 use Rattle.iq_chunks.proofs.ChunkClears.{difference_none, hit_none, hits_next}
 use Rattle.iq_fp.proofs.Growth.{stands_there}
 use Rattle.iq_table.specs.declared.table.Table.{Table}
 use Rattle.iq_table.specs.Places.{existence_of, codes_of, values_of, fp_at}
-use Rattle.iq_table.specs.Table.{TableStands, StandsWithout}
+use Rattle.iq_table.specs.Table.{StandsWithout}
 
 no_row : (n i : ℕ) → get_or (replicate n false) i false ≡ false
 no_row n i = elim (cases_lt i n) [

@@ -1,15 +1,12 @@
 -- Within its limit a table's rows find room.
-use Rattle.std.proofs.Common.{◌≡◌, ◌<◌, ◌≤◌, ℕ, zero, suc, ◌+◌, ◌*◌, ◌/◌, ◌^◌, max, Bool, true, false, List, [], ◌∷◌, length, inl, inr, refl, arith}
+use Rattle.std.proofs.Common.{◌≡◌, ◌<◌, ◌≤◌, ℕ, zero, suc, ◌+◌, ◌*◌, ◌/◌, Bool, true, false, List, [], ◌∷◌, length, inl, inr, arith}
 use Rattle.std.proofs.Math.Nat.{le-div_iff_mul-le, mul-le-mul_right}
 use Rattle.std.proofs.lemmas.Bool.{cases_lt}
 use Rattle.std.proofs.lemmas.Bool.Decides.{nat_tests}
-use Rattle.iq_base.specs.declared.sizes.TheConstants.{MOST_PAGES}
 use Rattle.iq_base.specs.declared.values.Kind.{Kind}
 use Rattle.iq_base.specs.declared.values.Kind.TheVariants.{Int, Big, Varchar}
 use Rattle.iq_base.specs.declared.descriptors.ColumnPart.{ColumnPart}
-use Rattle.iq_base.specs.Cells.{width}
 use Rattle.iq_base.specs.Limits.{text_length, limit_for, longest, rows_within, row_limit}
-use Rattle.iq_pieces.specs.Counts.{per_page}
 use Rattle.iq_table.specs.Places.{part_at}
 use Rattle.iq_table.specs.Limits.{as_columns, FindsRoom}
 

@@ -1,5 +1,5 @@
 -- Rows that come behind those of a table.
-use Rattle.std.proofs.Common.{◌≡◌, ◌≢◌, ◌<◌, ◌≤◌, ℕ, zero, suc, ◌+◌, ◌-◌, ◌*◌, ◌/◌, inl, inr, Bool, true, List, [], ◌∷◌, ◌++◌, Option, length, map, replicate, refl, sym, ap, ◌∙◌, subst, arith}
+use Rattle.std.proofs.Common.{◌≡◌, ◌≢◌, ◌<◌, ◌≤◌, ℕ, zero, suc, ◌+◌, ◌-◌, ◌*◌, ◌/◌, inl, inr, true, List, [], ◌++◌, Option, length, replicate, refl, sym, ap, ◌∙◌, subst, arith}
 use Rattle.std.specs.Prelude.{◌⊎◌}
 use Rattle.std.proofs.lemmas.Bool.{cases_lt}
 use Rattle.std.proofs.lemmas.List.{length-append, length-replicate, get_or_append_left, get_or-append-add, map-append}
@@ -18,7 +18,7 @@ use Rattle.iq_fp.proofs.Growth.{stands_there}
 use Rattle.iq_table.specs.declared.table.Table.{Table}
 use Rattle.iq_table.specs.Faults.{table_fault}
 use Rattle.iq_table.specs.Places.{existence_of, codes_of, values_of, part_at, fp_of}
-use Rattle.iq_table.specs.Table.{TableStands, StandsForMore}
+use Rattle.iq_table.specs.Table.{StandsForMore}
 use Rattle.iq_table.specs.Calls.{HasGrown, ColumnsStandForMore, KeepsButColumns, KeepsButRows, KeepsOtherTables, HasColumnsCause, HasWriteCause, HasAppendCause, columns_written, append_writes}
 
 -- columns stand on where only existence changes
@@ -109,9 +109,9 @@ table_more old new more before after grown wide columns bits = λ rows alive s.
       ];
       existence = subst (λ (p : ℕ). HoldsBits (after (existence_of p)) (alive ++ replicate n true)) (sym place) (bits alive s.bits s.existence);
       columns = λ c h. (
-      let within : c < length old.parts.columns = omega (arith, long) in
-      let stands : Stands (fp_of old.place new.parts.slots c (part_at c new.parts.columns)) after (column_of c rows ++ column_of c more) = columns c within (column_of c rows) (s.columns c within) in
-      let joined : Stands (fp_of old.place new.parts.slots c (part_at c new.parts.columns)) after (column_of c (rows ++ more)) = subst (λ (vs : List Value). Stands (fp_of old.place new.parts.slots c (part_at c new.parts.columns)) after vs) (sym (map-append (value_at c) rows more)) stands in
-      subst (λ (p : ℕ). Stands (fp_of p new.parts.slots c (part_at c new.parts.columns)) after (column_of c (rows ++ more))) (sym place) joined);
+          let within : c < length old.parts.columns = omega (arith, long) in
+          let stands : Stands (fp_of old.place new.parts.slots c (part_at c new.parts.columns)) after (column_of c rows ++ column_of c more) = columns c within (column_of c rows) (s.columns c within) in
+          let joined : Stands (fp_of old.place new.parts.slots c (part_at c new.parts.columns)) after (column_of c (rows ++ more)) = subst (λ (vs : List Value). Stands (fp_of old.place new.parts.slots c (part_at c new.parts.columns)) after vs) (sym (map-append (value_at c) rows more)) stands in
+          subst (λ (p : ℕ). Stands (fp_of p new.parts.slots c (part_at c new.parts.columns)) after (column_of c (rows ++ more))) (sym place) joined);
       forms = λ c h. (let within : c < length old.parts.columns = omega (arith, long) in (grown.columns.each c within).form (s.forms c within));
     }

@@ -1,5 +1,5 @@
 -- What the calls on a table change and count, and why they fail.
-use Rattle.std.specs.Prelude.{◌≡◌, ◌≢◌, ◌<◌, ◌≤◌, ℕ, zero, suc, ◌+◌, ◌*◌, ◌/◌, ◌⊎◌, Bool, List, [], ◌∷◌, Option, None, IsSome, length, map, slice_index, sum_by, ⊤}
+use Rattle.std.specs.Prelude.{◌≡◌, ◌≢◌, ◌<◌, ◌≤◌, ℕ, zero, suc, ◌+◌, ◌*◌, ◌/◌, ◌⊎◌, List, [], ◌∷◌, Option, None, IsSome, length, map, slice_index, sum_by, ⊤}
 use Rattle.iq_base.specs.declared.schemas.Column.{Column}
 use Rattle.iq_base.specs.declared.descriptors.ColumnPart.{ColumnPart}
 use Rattle.iq_base.specs.declared.descriptors.Descriptor.{Descriptor}
@@ -9,11 +9,7 @@ use Rattle.iq_pages.specs.declared.page_faults.PageFault.TheVariants as pages
 use Rattle.iq_pages.specs.Pages.{Pages, Seen}
 use Rattle.iq_chunks.specs.Chunks.{chunks_changed, HasBitsCause}
 use Rattle.iq_base.specs.declared.values.Value.{Value}
-use Rattle.iq_bitmap.specs.Bits.{rows_from}
-use Rattle.iq_cells.specs.Packed.{value_at}
 use Rattle.iq_cells.specs.Tables.{column_of}
-use Rattle.iq_fp.specs.Stands.{Stands}
-use Rattle.iq_fp.specs.declared.fp.Fp.{Fp}
 use Rattle.iq_fp.specs.Forms.{code_width}
 use Rattle.iq_fp.specs.Calls as columns
 use Rattle.iq_table.specs.declared.table.Table.{Table}
@@ -133,10 +129,6 @@ HasAppendCause table more before after (faults.Failed x y) = RoseWithin before.f
 HasAppendCause table more before after (faults.BadPage object page) = IsBadForAppend table.place table.parts.slots table.parts.columns before after object page
 HasAppendCause table more before after faults.NoMemory = ⊤
 HasAppendCause table more before after (faults.TableFull limit) = (limit ≡ limit_of table.parts) × (limit < table.parts.slots + more)
-
--- whatever values a column stands for, these are those of the rows that are set, in order
-abbrev pub AreChosen : Fp → (ℕ → Option Pages) → List Bool → List Value → Type 0
-AreChosen fp told set got = (values : List Value) → Stands fp told values → got ≡ map (λ (r : ℕ). value_at r values) (rows_from 0 set)
 
 -- how many pages some columns have
 abbrev pub pages_of_columns : Table → List ℕ → ℕ

@@ -1,5 +1,5 @@
 -- The numbers of a table's objects, and its columns as its descriptor has them.
-use Rattle.std.specs.Prelude.{◌≡◌, ℕ, ◌+◌, ◌*◌, true, List, [], map, slice_index_or}
+use Rattle.std.specs.Prelude.{ℕ, ◌+◌, ◌*◌, true, List, [], map, slice_index_or}
 use Rattle.iq_base.specs.declared.values.Kind.{Kind}
 use Rattle.iq_base.specs.declared.values.Kind.TheVariants.{Int}
 use Rattle.iq_base.specs.declared.schemas.Column.{Column}

@@ -1,12 +1,14 @@
 //! Reading a table.
-ghost use Rattle.std.specs.Prelude.{◌≡◌, ◌<◌, ◌≤◌, length, count_by, slice_index, ℕ, OnOk, IfOk, IfErr};
+ghost use Rattle.std.specs.Prelude.{◌≡◌, ◌<◌, ◌≤◌, length, slice_index, ℕ, OnOk, IfOk, IfErr};
 ghost use Rattle.iq_pages.specs.PageCalls.{view};
 ghost use Rattle.iq_pieces.specs.Counts.{OnlyReads};
 ghost use Rattle.iq_chunks.specs.Chunks.{chunks_for, HasBitsCause};
+ghost use Rattle.iq_bitmap.specs.Bits.{rows_from};
 ghost use Rattle.iq_fp.specs.Calls.{HasReadCause, all_pages};
+ghost use Rattle.iq_fp.specs.Scans.{AreValuesOfRows};
 ghost use Rattle.iq_table.specs.Places.{existence_of, kinds_at, part_at, fp_at};
 ghost use Rattle.iq_table.specs.Table.{GivesAlive, GivesRows};
-ghost use Rattle.iq_table.specs.Calls.{AreChosen, HasRowsCause, pages_of_columns};
+ghost use Rattle.iq_table.specs.Calls.{HasRowsCause, pages_of_columns};
 
 use crate::places::{existence_of, fp_of};
 use crate::table::Table;
@@ -67,8 +69,8 @@ impl Table {
         requires long { length rows.now ≡ self.now.parts.slots }
         requires column { c < length self.now.parts.columns }
         ensures kind { IfOk result (λ cells. cells.kind ≡ (part_at c self.now.parts.columns).kind) }
-        ensures long { IfOk result (λ cells. length cells.values ≡ count_by (λ on. on) rows.now) }
-        ensures values { IfOk result (λ cells. AreChosen (fp_at self.now.place self.now.parts c) (S.told source.old) rows.now cells.values) }
+        ensures long { IfOk result (λ cells. length cells.values ≡ length (rows_from 0 rows.now)) }
+        ensures values { IfOk result (λ cells. AreValuesOfRows (fp_at self.now.place self.now.parts c) (S.told source.old) rows.now cells.values) }
         ensures reads { OnlyReads (all_pages (fp_at self.now.place self.now.parts c)) (view S.PageSource source.old) (view S.PageSource source.new) }
         ensures cause { IfErr result (HasReadCause (fp_at self.now.place self.now.parts c) (view S.PageSource source.old) (view S.PageSource source.new)) }
     {
@@ -78,11 +80,6 @@ impl Table {
             c,
             &self.parts.columns.as_slice()[c],
         );
-        let all = fp.all_cells(alloc, source)?;
-        let mut cells = Cells::new(alloc, fp.kind);
-        for row in rows.rows() {
-            cells.push_from(&all, row as usize)?;
-        }
-        Ok(cells)
+        fp.cells_of(alloc, source, rows)
     }
 }

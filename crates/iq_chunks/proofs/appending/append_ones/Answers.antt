@@ -1,8 +1,7 @@
-use Rattle.std.proofs.Common.{◌≡◌, ◌<◌, ◌≤◌, ◌+◌, ◌-◌, ◌*◌, ◌/◌, ◌%◌, ℕ, min, refl, sym, ap, ◌∙◌, arith}
+use Rattle.std.proofs.Common.{◌≡◌, ◌<◌, ◌≤◌, ◌+◌, ◌-◌, ◌*◌, ◌/◌, ◌%◌, min, arith}
 use Rattle.iq_pages.specs.PageCalls.{view}
 use Rattle.iq_pages.proofs.PageLaws.{counts_on}
 use Rattle.iq_pieces.proofs.Counting.{counts_up, others_on}
-use Rattle.iq_chunks.specs.Chunks.{AppendsOnes}
 use Rattle.iq_chunks.proofs.ChunkGrowth.{appends_on}
 use Rattle.iq_chunks.proofs.appending.append_ones.Goals as goal
 

@@ -1,7 +1,6 @@
-use Rattle.std.proofs.Common.{◌≡◌, ◌<◌, ◌≤◌, ◌+◌, ◌-◌, ◌*◌, ◌/◌, ◌%◌, ℕ, List, Option, replicate, refl, sym, ap, ◌∙◌, subst, arith}
+use Rattle.std.proofs.Common.{◌≡◌, ◌/◌, refl, arith}
 use Rattle.std.proofs.lemmas.Result.{err_from_is_err_and, on_ok_weaker}
 use Rattle.iq_pages.specs.PageCalls.{view}
-use Rattle.iq_pages.specs.Pages.{Pages}
 use Rattle.iq_chunks.proofs.ChunkReads.{read_cause}
 use Rattle.iq_chunks.proofs.ChunkGrowth.{BeginsChunk, begins_full, begins_read, extends}
 use Rattle.iq_chunks.proofs.appending.extend.Goals as goal

@@ -1,4 +1,4 @@
-use Rattle.std.proofs.Common.{◌≡◌, length, false, ap, ◌∙◌}
+use Rattle.std.proofs.Common.{length, false, ap, ◌∙◌}
 use Rattle.std.proofs.lemmas.List.{length-replicate}
 use Rattle.iq_bitmap.proofs.Chunks.{length-page_bits}
 use Rattle.iq_chunks.proofs.PageRows.{loaded_whole}

@@ -1,4 +1,4 @@
-use Rattle.std.proofs.Common.{◌≡◌, ◌<◌, length, Bool, not, ◌&&◌, sym, ap, ◌∙◌, arith}
+use Rattle.std.proofs.Common.{◌≡◌, length, not, ◌&&◌, sym, ap, ◌∙◌, arith}
 use Rattle.std.proofs.lemmas.Simd.{length-zip2}
 use Rattle.iq_bitmap.specs.Bits.{difference}
 use Rattle.iq_bitmap.proofs.Chunks.{length-page_bits}

@@ -1,4 +1,4 @@
-use Rattle.std.proofs.Common.{◌≡◌, ◌<◌, ◌≤◌, ℕ, List, Bool, length, sym, ap, ◌∙◌, arith}
+use Rattle.std.proofs.Common.{◌≡◌, length, ap, ◌∙◌, arith}
 use Rattle.iq_bitmap.proofs.Chunks.{length-page_bits}
 use Rattle.iq_chunks.specs.Chunks.{SetsRows}
 use Rattle.iq_chunks.proofs.PageRows.{chunk_whole}

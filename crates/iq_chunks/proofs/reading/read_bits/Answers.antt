@@ -1,11 +1,11 @@
-use Rattle.std.proofs.Common.{◌≡◌, ◌<◌, ◌≤◌, ◌+◌, ◌*◌, ◌/◌, ◌%◌, ℕ, min, length, Option, sym, ap, ◌∙◌, subst, arith}
+use Rattle.std.proofs.Common.{◌+◌, ◌*◌, length, Option, ap, ◌∙◌, subst, arith}
 use Rattle.std.proofs.lemmas.Result.{err_from_is_err_and}
 use Rattle.iq_pages.specs.PageCalls.{view}
 use Rattle.iq_pages.specs.Pages.{Pages, IsPageOf}
-use Rattle.iq_bitmap.specs.Bits.{with_chunk, page_bits}
+use Rattle.iq_bitmap.specs.Bits.{page_bits}
 use Rattle.iq_bitmap.proofs.Chunks.{length-with_chunk}
 use Rattle.iq_pieces.proofs.Counting.{reads_on}
-use Rattle.iq_chunks.proofs.ChunkReads.{AreLoaded, loads_next, gives_bits, read_cause}
+use Rattle.iq_chunks.proofs.ChunkReads.{loads_next, gives_bits, read_cause}
 use Rattle.iq_chunks.proofs.reading.read_bits.Goals as goal
 
 pub returns-in_err-read_page-clause-cause : goal.returns-in_err-read_page-clause-cause

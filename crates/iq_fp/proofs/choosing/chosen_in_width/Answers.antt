@@ -4,7 +4,7 @@ use Rattle.iq_bitmap.specs.Bits.{IsNextSet, HasNoneFrom}
 use Rattle.iq_pages.specs.Pages.{IsPageOf}
 use Rattle.iq_pieces.specs.Counts.{per_page, pages_for}
 use Rattle.iq_pieces.proofs.Counting.{reads_on}
-use Rattle.iq_fp.proofs.Chosen.{page_onward, page_within, chosen_next, all_chosen}
+use Rattle.iq_fp.proofs.Chosen.{page_onward, page_within, chosen_next, chosen_long, all_chosen, all_long}
 use Rattle.iq_fp.proofs.choosing.chosen_in_width.Goals as goal
 
 pub pages-preserved : goal.pages-preserved
@@ -23,6 +23,7 @@ pages-preserved g c =
     record {
       kind = c.in-Ok.ensures.kind ∙ c.pages.invariant.kind;
       few = omega (arith, within);
+      long = chosen_long c.args.rows.now g.row.W c.pages.p row c.min-here.result fp.slots c.pages.cells.values _ _ some c.requires.rows next c.min-here.ensures c.in-Ok.ensures.values c.pages.invariant.long;
       values = chosen_next fp (g.S.PageSource.told c.args.source.now) c.args.rows.now c.args.known.now.values g.row.W c.pages.p row c.min-here.result c.read_page.new.into _ _ some c.requires.width c.requires.rows next here c.min-here.ensures c.in-Ok.ensures.values c.pages.invariant.values;
       reads = reads_on c.pages.p 1 (row / per + 1) _ _ _ (omega (arith, onward)) c.pages.invariant.reads c.read_page.ensures.reads;
     }
@@ -33,3 +34,10 @@ returns-clause-values g c =
     let from = min fp.slots (per_page g.row.W * c.pages.p) in
     let none : HasNoneFrom c.args.rows.now from = rw (← c.min.ensures) c.in_default.ensures.none in
     all_chosen fp (g.S.PageSource.told c.args.source.now) c.args.rows.now c.args.known.now.values from c.pages.cells.values (omega (arith, c.requires.rows)) none c.pages.invariant.values
+
+pub returns-clause-long : goal.returns-clause-long
+returns-clause-long g c =
+    let fp = c.args.fp.now in
+    let from = min fp.slots (per_page g.row.W * c.pages.p) in
+    let none : HasNoneFrom c.args.rows.now from = rw (← c.min.ensures) c.in_default.ensures.none in
+    all_long c.args.rows.now from c.pages.cells.values (omega (arith, c.requires.rows)) none c.pages.invariant.long

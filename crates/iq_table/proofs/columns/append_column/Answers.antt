@@ -1,4 +1,4 @@
-use Rattle.std.proofs.Common.{◌<◌, inr, refl, arith}
+use Rattle.std.proofs.Common.{inr, refl, arith}
 use Rattle.iq_table.proofs.Moves.{none_of_more}
 use Rattle.iq_table.proofs.columns.append_column.Goals as goal
 

@@ -1,4 +1,4 @@
-use Rattle.std.proofs.Common.{◌≡◌, ◌≤◌, ap, ap₂, ◌∙◌, ℕ, Bool, List}
+use Rattle.std.proofs.Common.{◌≡◌, ap, ap₂, ◌∙◌, List}
 use Rattle.iq_base.specs.declared.descriptors.ColumnPart.{ColumnPart}
 use Rattle.iq_base.specs.declared.descriptors.IndexPart.{IndexPart}
 use Rattle.iq_base.specs.Limits.{longest, rows_within}

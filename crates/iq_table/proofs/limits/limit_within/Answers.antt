@@ -1,4 +1,4 @@
-use Rattle.std.proofs.Common.{◌≡◌, ◌≤◌, arith}
+use Rattle.std.proofs.Common.{arith}
 use Rattle.iq_table.proofs.Room.{most_rows}
 use Rattle.iq_table.proofs.limits.limit_within.Goals as goal
 

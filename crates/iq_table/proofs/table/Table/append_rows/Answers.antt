@@ -1,14 +1,11 @@
-use Rattle.std.proofs.Common.{◌≡◌, ◌<◌, ◌+◌, ℕ, List, length, refl, sym, ap, ◌∙◌, subst, arith}
+use Rattle.std.proofs.Common.{◌≡◌, ◌<◌, ◌+◌, ℕ, List, length, refl, ap, ◌∙◌}
 use Rattle.std.proofs.lemmas.List.{length-map}
 use Rattle.std.proofs.lemmas.Result.{err_from_is_err_and}
 use Rattle.iq_base.specs.declared.values.Kind.{Kind}
 use Rattle.iq_base.specs.declared.descriptors.ColumnPart.{ColumnPart}
 use Rattle.iq_pages.specs.PageCalls.{view}
-use Rattle.iq_pages.specs.declared.page_faults.PageFault.{PageFault}
 use Rattle.iq_cells.specs.Tables.{row_at}
-use Rattle.iq_chunks.specs.Chunks.{AppendsOnes}
 use Rattle.iq_table.specs.declared.table.Table.{Table}
-use Rattle.iq_table.specs.Places.{existence_of, part_kinds}
 use Rattle.iq_table.specs.Calls.{HasGrown, AreGrown, ColumnsStandForMore, HasWriteCause}
 use Rattle.iq_table.proofs.TableGrowth.{table_more, append_cause}
 use Rattle.iq_table.proofs.table.Table.append_rows.Goals as goal

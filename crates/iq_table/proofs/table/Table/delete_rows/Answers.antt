@@ -1,4 +1,4 @@
-use Rattle.std.proofs.Common.{◌≡◌, ap, sym, ◌∙◌}
+use Rattle.std.proofs.Common.{◌≡◌, ◌∙◌}
 use Rattle.iq_pages.proofs.PageLaws.{counts_none}
 use Rattle.iq_table.proofs.Removals.{chunks_none, without_stands, without_none}
 use Rattle.iq_chunks.specs.Chunks.{chunks_hit}
