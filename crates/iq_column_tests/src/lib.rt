@@ -4,5 +4,3 @@
 
 #[cfg(test)]
 mod bitmaps;
-#[cfg(test)]
-mod tables;
