@@ -11,6 +11,10 @@ mod images;
 #[cfg(test)]
 mod large;
 #[cfg(test)]
+mod plain;
+#[cfg(test)]
 mod stores;
+#[cfg(test)]
+mod sweeps;
 #[cfg(test)]
 mod tables;
