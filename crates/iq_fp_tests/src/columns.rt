@@ -164,9 +164,8 @@ pub fn rows_of(alloc: Global, rows: &Bitmap) -> Result<Vec<u32>, Fail> {
 /// Whether two columns of one kind have the same values.
 pub fn assert_same(rt: &impl Abort, got: &Cells, want: &Cells) {
     assert!(rt; got.kind() == want.kind());
-    assert_eq!(rt; got.len(), want.len());
+    assert!(rt; got.len() == want.len());
     for i in 0..got.len() {
-        assert!(rt; i < want.len());
         assert!(rt; got.is_equal(i, want, i), "value {i}");
     }
 }

@@ -86,124 +86,114 @@ fn append(
     let counts = (store.pages(CODES), store.pages(VALUES));
     let fault = put(rt, alloc, fp, store, &more).err();
     if fault.is_some() {
-        assert_eq!(rt; *fp, before);
-        assert_eq!(rt; (store.pages(CODES), store.pages(VALUES)), counts);
+        assert!(rt; *fp == before);
+        assert!(rt; (store.pages(CODES), store.pages(VALUES)) == counts);
         assert!(rt; page_of(rt, store, CODES)? == codes);
         assert!(rt; page_of(rt, store, VALUES)? == values);
     }
     Ok(fault)
 }
 
+// A column of 5, NULL, 5, 6, whose values are 5, NULL, 6, with one byte of one object changed, and said to have so many rows and
+// distinct values: the fault of each call that reads it, of a pair with itself, and of an append.
+#[derive(Drop)]
 struct Case {
-    object: u32,
-    at: usize,
-    byte: u8,
-    rows: u32,
-    distinct: u32,
+    byte: (u32, usize, u8),
+    said: (u32, u32),
     read: [Option<PageFault>; 4],
     pair: Option<PageFault>,
     append: Option<PageFault>,
 }
 
-// Of a column of 5, NULL, 5, 6, whose values are 5, NULL, 6: which byte of which object becomes what, and how many rows and distinct
-// values there are said to be; and the fault of each call.
-const CASES: [Case; 6] = [
-    // The last row's code is no code.
-    Case {
-        object: CODES,
-        at: 3,
-        byte: 3,
-        rows: 4,
-        distinct: 3,
-        read: [BAD_CODES, BAD_CODES, BAD_CODES, BAD_CODES],
-        pair: BAD_CODES,
-        append: None,
-    },
-    // The cell of 6 begins with 2.
-    Case {
-        object: VALUES,
-        at: 10,
-        byte: 2,
-        rows: 4,
-        distinct: 3,
-        read: [BAD_VALUES, BAD_VALUES, BAD_VALUES, BAD_VALUES],
-        pair: BAD_VALUES,
-        append: BAD_VALUES,
-    },
-    // The 6 becomes a 5, which stands before it too: only an append can tell.
-    Case {
-        object: VALUES,
-        at: 11,
-        byte: 5,
-        rows: 4,
-        distinct: 3,
-        read: [None, None, None, None],
-        pair: None,
-        append: BAD_VALUES,
-    },
-    // NULL's cell has a byte that isn't zero. The last row's value is another, on the same page, and is read alone.
-    Case {
-        object: VALUES,
-        at: 9,
-        byte: 1,
-        rows: 4,
-        distinct: 3,
-        read: [BAD_VALUES, BAD_VALUES, BAD_VALUES, None],
-        pair: BAD_VALUES,
-        append: BAD_VALUES,
-    },
-    // A page of codes is wanting.
-    Case {
-        object: CODES,
-        at: 3,
-        byte: 2,
-        rows: 1_012,
-        distinct: 3,
-        read: [NO_CODES, NO_CODES, NO_CODES, NO_CODES],
-        pair: NO_CODES,
-        append: NO_CODES,
-    },
-    // A page of values is wanting.
-    Case {
-        object: VALUES,
-        at: 10,
-        byte: 1,
-        rows: 210,
-        distinct: 203,
-        read: [NO_VALUES, NO_VALUES, NO_VALUES, None],
-        pair: NO_VALUES,
-        append: NO_VALUES,
-    },
-];
-
-fn assert_case(rt: &impl Abort, alloc: Global, i: usize, case: &Case) -> Result<(), Fail> {
+fn assert_case(rt: &impl Abort, alloc: Global, case: Case) -> Result<(), Fail> {
     let mut store = sure(alloc);
     let cells = ints(alloc, Kind::Int, &[Some(5), None, Some(5), Some(6)])?;
     let made = column(rt, alloc, &mut store, (CODES, VALUES), &cells)?;
-    set_byte(rt, &mut store, case.object, case.at, case.byte)?;
+    set_byte(rt, &mut store, case.byte.0, case.byte.1, case.byte.2)?;
     let mut fp = Fp {
-        slots: case.rows,
-        distinct: case.distinct,
+        slots: case.said.0,
+        distinct: case.said.1,
         ..made
     };
-    let got = read(rt, alloc, &fp, &mut store)?;
-    for k in 0..4 {
-        assert_eq!(rt; got[k], case.read[k], "case {i}, call {k}");
-    }
+    assert!(rt; read(rt, alloc, &fp, &mut store)? == case.read);
     let pair = paired(rt, alloc, &fp, &mut store, Op::Eq, &fp, Side::True).err();
-    assert_eq!(rt; pair, case.pair, "case {i}");
-    assert_eq!(rt;
-        append(rt, alloc, &mut fp, &mut store)?,
-        case.append,
-        "case {i}"
-    );
+    assert!(rt; pair == case.pair);
+    assert!(rt; append(rt, alloc, &mut fp, &mut store)? == case.append);
     Ok(())
 }
 
 #[test]
-fn a_bad_page_is_named_and_nothing_changes(rt: HostRuntime) -> Result<(), Fail> {
-    for (i, case) in CASES.iter().enumerate() {
-        assert_case(&rt, rt.alloc(), i, case)?;
-    }
-    Ok(())
+fn a_code_that_is_none(rt: HostRuntime) -> Result<(), Fail> {
+    // The last row's code isn't below 3.
+    let case = Case {
+        byte: (CODES, 3, 3),
+        said: (4, 3),
+        read: [BAD_CODES; 4],
+        pair: BAD_CODES,
+        append: None,
+    };
+    assert_case(&rt, rt.alloc(), case)
+}
+
+#[test]
+fn a_cell_that_is_none(rt: HostRuntime) -> Result<(), Fail> {
+    // The cell of 6 begins with 2.
+    let case = Case {
+        byte: (VALUES, 10, 2),
+        said: (4, 3),
+        read: [BAD_VALUES; 4],
+        pair: BAD_VALUES,
+        append: BAD_VALUES,
+    };
+    assert_case(&rt, rt.alloc(), case)
+}
+
+#[test]
+fn a_value_that_stands_twice(rt: HostRuntime) -> Result<(), Fail> {
+    // The 6 becomes a 5, which stands before it too: only an append can tell.
+    let case = Case {
+        byte: (VALUES, 11, 5),
+        said: (4, 3),
+        read: [None; 4],
+        pair: None,
+        append: BAD_VALUES,
+    };
+    assert_case(&rt, rt.alloc(), case)
+}
+
+#[test]
+fn a_cell_of_null_with_a_byte(rt: HostRuntime) -> Result<(), Fail> {
+    // The last row's value is another, on the same page, and is read alone.
+    let case = Case {
+        byte: (VALUES, 9, 1),
+        said: (4, 3),
+        read: [BAD_VALUES, BAD_VALUES, BAD_VALUES, None],
+        pair: BAD_VALUES,
+        append: BAD_VALUES,
+    };
+    assert_case(&rt, rt.alloc(), case)
+}
+
+#[test]
+fn a_page_of_codes_too_few(rt: HostRuntime) -> Result<(), Fail> {
+    let case = Case {
+        byte: (CODES, 3, 2),
+        said: (1_012, 3),
+        read: [NO_CODES; 4],
+        pair: NO_CODES,
+        append: NO_CODES,
+    };
+    assert_case(&rt, rt.alloc(), case)
+}
+
+#[test]
+fn a_page_of_values_too_few(rt: HostRuntime) -> Result<(), Fail> {
+    let case = Case {
+        byte: (VALUES, 10, 1),
+        said: (210, 203),
+        read: [NO_VALUES, NO_VALUES, NO_VALUES, None],
+        pair: NO_VALUES,
+        append: NO_VALUES,
+    };
+    assert_case(&rt, rt.alloc(), case)
 }

@@ -1,8 +1,7 @@
 //! Each test of a row on values and NULL, both sides, beside a plain evaluation row by row.
-use crate::columns::{CODES, VALUES, column, ints, rows_of, scanned, sure};
+use crate::columns::{CODES, VALUES, column, ints, scanned, sure};
 use iq_ast::{Op, Test};
-use iq_base::{Kind, Listed, Name, Text, Value};
-use iq_bitmap::Bitmap;
+use iq_base::{Kind, Listed, Name, Value};
 use iq_fp::Fp;
 use iq_pages::MemoryPages;
 use iq_truth::{Side, Truth, negated, truth_on};
@@ -77,6 +76,45 @@ fn name() -> Result<Name, Fail> {
     Ok(Name::of("c").ok_or("too long")?)
 }
 
+// Which rows a scan finds.
+fn on_side(
+    rt: &impl Abort,
+    alloc: Global,
+    fp: &Fp,
+    store: &mut MemoryPages,
+    test: &Test,
+    side: Side,
+) -> Result<[bool; 9], Fail> {
+    let found = scanned(alloc, fp, store, test, side)?;
+    assert!(rt; found.len() == 9);
+    let mut rows = [false; 9];
+    for i in 0..9 {
+        rows[i] = found.get(i as u32);
+    }
+    Ok(rows)
+}
+
+// What the test says of each row's value.
+fn spoken(test: &Test) -> [Option<bool>; 9] {
+    let mut rows = [None; 9];
+    for i in 0..9 {
+        rows[i] = match truth_on(test, &value(ROWS[i])) {
+            Truth::True => Some(true),
+            Truth::False => Some(false),
+            Truth::Unknown => None,
+        };
+    }
+    rows
+}
+
+fn rows_where(want: [Option<bool>; 9], on: bool) -> [bool; 9] {
+    let mut rows = [false; 9];
+    for i in 0..9 {
+        rows[i] = want[i] == Some(on);
+    }
+    rows
+}
+
 // Both sides of a test, and of its negation, beside what it ought to say of each row.
 fn assert_sides(
     rt: &impl Abort,
@@ -86,43 +124,35 @@ fn assert_sides(
     test: Test,
     want: [Option<bool>; 9],
 ) -> Result<(), Fail> {
-    let on = scanned(alloc, fp, store, &test, Side::True)?;
-    let off = scanned(alloc, fp, store, &test, Side::False)?;
-    for i in 0..9 {
-        let truth = match want[i] {
-            Some(true) => Truth::True,
-            Some(false) => Truth::False,
-            None => Truth::Unknown,
-        };
-        assert!(rt; on.len() == 9 && off.len() == 9);
-        assert_eq!(rt;
-            on.get(i as u32),
-            want[i] == Some(true),
-            "{test:?}, row {i}"
-        );
-        assert_eq!(rt;
-            off.get(i as u32),
-            want[i] == Some(false),
-            "{test:?}, row {i}"
-        );
-        assert_eq!(rt;
-            truth_on(&test, &value(ROWS[i])),
-            truth,
-            "{test:?}, row {i}"
-        );
-    }
+    let on = rows_where(want, true);
+    let off = rows_where(want, false);
+    assert!(rt; spoken(&test) == want);
+    assert!(rt; on_side(rt, alloc, fp, store, &test, Side::True)? == on);
+    assert!(rt; on_side(rt, alloc, fp, store, &test, Side::False)? == off);
     let test = negated(test);
-    let on_other = scanned(alloc, fp, store, &test, Side::True)?;
-    let off_other = scanned(alloc, fp, store, &test, Side::False)?;
-    assert_eq!(rt;
-        rows_of(alloc, &on_other)?.as_slice(),
-        rows_of(alloc, &off)?.as_slice()
-    );
-    assert_eq!(rt;
-        rows_of(alloc, &off_other)?.as_slice(),
-        rows_of(alloc, &on)?.as_slice()
-    );
+    assert!(rt; on_side(rt, alloc, fp, store, &test, Side::True)? == off);
+    assert!(rt; on_side(rt, alloc, fp, store, &test, Side::False)? == on);
     Ok(())
+}
+
+fn assert_comparison(
+    rt: &impl Abort,
+    alloc: Global,
+    fp: &Fp,
+    store: &mut MemoryPages,
+    op: Op,
+    literal: Option<i64>,
+) -> Result<(), Fail> {
+    let test = Test::Compare {
+        column: name()?,
+        op,
+        value: value(literal),
+    };
+    let mut want = [None; 9];
+    for i in 0..9 {
+        want[i] = compared(op, ROWS[i], literal);
+    }
+    assert_sides(rt, alloc, fp, store, test, want)
 }
 
 #[test]
@@ -132,58 +162,81 @@ fn a_comparison_with_a_value(rt: HostRuntime) -> Result<(), Fail> {
     let fp = column(&rt, rt.alloc(), &mut store, (CODES, VALUES), &cells)?;
     for op in OPS {
         for literal in LITERALS {
-            let test = Test::Compare {
-                column: name()?,
-                op,
-                value: value(literal),
-            };
-            let mut want = [None; 9];
-            for i in 0..9 {
-                want[i] = compared(op, ROWS[i], literal);
-            }
-            assert_sides(&rt, rt.alloc(), &fp, &mut store, test, want)?;
+            assert_comparison(&rt, rt.alloc(), &fp, &mut store, op, literal)?;
+        }
+    }
+    Ok(())
+}
+
+fn assert_range(
+    rt: &impl Abort,
+    alloc: Global,
+    fp: &Fp,
+    store: &mut MemoryPages,
+    low: Option<i64>,
+    high: Option<i64>,
+) -> Result<(), Fail> {
+    let test = Test::Between {
+        column: name()?,
+        negated: false,
+        low: value(low),
+        high: value(high),
+    };
+    let mut want = [None; 9];
+    for i in 0..9 {
+        want[i] = and(
+            compared(Op::Ge, ROWS[i], low),
+            compared(Op::Le, ROWS[i], high),
+        );
+    }
+    assert_sides(rt, alloc, fp, store, test, want)
+}
+
+fn assert_list(
+    rt: &impl Abort,
+    alloc: Global,
+    fp: &Fp,
+    store: &mut MemoryPages,
+    first: Option<i64>,
+    second: Option<i64>,
+) -> Result<(), Fail> {
+    let mut values = Listed::new(alloc);
+    values.push(value(first))?;
+    values.push(value(second))?;
+    let test = Test::OneOf {
+        column: name()?,
+        negated: true,
+        values,
+    };
+    let mut want = [None; 9];
+    for i in 0..9 {
+        want[i] = not(or(
+            compared(Op::Eq, ROWS[i], first),
+            compared(Op::Eq, ROWS[i], second),
+        ));
+    }
+    assert_sides(rt, alloc, fp, store, test, want)
+}
+
+#[test]
+fn a_range_and_a_list(rt: HostRuntime) -> Result<(), Fail> {
+    let mut store = sure(rt.alloc());
+    let cells = ints(rt.alloc(), Kind::Int, &ROWS)?;
+    let fp = column(&rt, rt.alloc(), &mut store, (CODES, VALUES), &cells)?;
+    for low in LITERALS {
+        for high in LITERALS {
+            assert_range(&rt, rt.alloc(), &fp, &mut store, low, high)?;
+            assert_list(&rt, rt.alloc(), &fp, &mut store, low, high)?;
         }
     }
     Ok(())
 }
 
 #[test]
-fn a_range_and_a_list_and_null(rt: HostRuntime) -> Result<(), Fail> {
+fn null_and_a_list_of_nothing(rt: HostRuntime) -> Result<(), Fail> {
     let mut store = sure(rt.alloc());
     let cells = ints(rt.alloc(), Kind::Int, &ROWS)?;
     let fp = column(&rt, rt.alloc(), &mut store, (CODES, VALUES), &cells)?;
-    for low in LITERALS {
-        for high in LITERALS {
-            let between = Test::Between {
-                column: name()?,
-                negated: false,
-                low: value(low),
-                high: value(high),
-            };
-            let mut values = Listed::new(rt.alloc());
-            values.push(value(low))?;
-            values.push(value(high))?;
-            let one_of = Test::OneOf {
-                column: name()?,
-                negated: true,
-                values,
-            };
-            let mut inside = [None; 9];
-            let mut among = [None; 9];
-            for i in 0..9 {
-                inside[i] = and(
-                    compared(Op::Ge, ROWS[i], low),
-                    compared(Op::Le, ROWS[i], high),
-                );
-                among[i] = not(or(
-                    compared(Op::Eq, ROWS[i], low),
-                    compared(Op::Eq, ROWS[i], high),
-                ));
-            }
-            assert_sides(&rt, rt.alloc(), &fp, &mut store, between, inside)?;
-            assert_sides(&rt, rt.alloc(), &fp, &mut store, one_of, among)?;
-        }
-    }
     let mut null = [None; 9];
     for i in 0..9 {
         null[i] = Some(ROWS[i].is_none());
@@ -192,12 +245,11 @@ fn a_range_and_a_list_and_null(rt: HostRuntime) -> Result<(), Fail> {
         column: name()?,
         negated: false,
     };
-    assert_sides(&rt, rt.alloc(), &fp, &mut store, is_null, null)?;
     let none = Test::OneOf {
         column: name()?,
         negated: false,
         values: Listed::new(rt.alloc()),
     };
-    assert_sides(&rt, rt.alloc(), &fp, &mut store, none, [Some(false); 9])?;
-    Ok(())
+    assert_sides(&rt, rt.alloc(), &fp, &mut store, is_null, null)?;
+    assert_sides(&rt, rt.alloc(), &fp, &mut store, none, [Some(false); 9])
 }

@@ -1,10 +1,49 @@
 //! Pieces of one width over pages.
 use crate::columns::{assert_same, numbers, sure};
-use iq_base::Kind;
+use iq_base::{Kind, Page};
 use iq_cells::Cells;
-use iq_pages::{PageFault, PageSource};
+use iq_pages::{MemoryPages, PageFault, PageSource};
 use iq_pieces::{CodeList, Codes, append, append_behind, read, read_page, rewrite};
+use std::alloc::Global;
+use std::process::Abort;
 use std::test::Fail;
+
+// Codes of 3 bytes behind so many of object 9.
+fn put(
+    rt: &impl Abort,
+    store: &mut MemoryPages,
+    count: u32,
+    codes: &[u32],
+) -> Result<(), PageFault> {
+    assert!(rt; codes.iter().all(|code| *code < 16_777_216));
+    assert!(rt; codes.len() < 1_000 && count < 1_000);
+    append(store, 9, count, &Codes::<3>::of(codes))
+}
+
+// So many codes of 3 bytes of object 9, each below a number.
+fn got(
+    alloc: Global,
+    store: &mut MemoryPages,
+    count: u32,
+    below: u32,
+) -> Result<Vec<u32>, PageFault> {
+    let mut list = CodeList::<3>::new(alloc, below);
+    read(store, 9, count, &mut list)?;
+    Ok(list.into_codes())
+}
+
+// Object 9 anew, of codes of 1 byte.
+fn renew(rt: &impl Abort, store: &mut MemoryPages, codes: &[u32]) -> Result<(), PageFault> {
+    assert!(rt; codes.iter().all(|code| *code < 256));
+    assert!(rt; codes.len() < 1_000);
+    rewrite(store, 9, &Codes::<1>::of(codes))
+}
+
+fn page(store: &mut MemoryPages, n: u32) -> Result<Page, PageFault> {
+    let mut page = [7; 1008];
+    read_page(store, 9, n, &mut page)?;
+    Ok(page)
+}
 
 #[test]
 fn codes_lie_one_behind_the_other(rt: HostRuntime) -> Result<(), Fail> {
@@ -14,33 +53,71 @@ fn codes_lie_one_behind_the_other(rt: HostRuntime) -> Result<(), Fail> {
     for i in 3..336 {
         codes.push(i)?;
     }
-    assert!(rt; codes.iter().all(|code| *code < 16_777_216) && codes.len() == 336);
-    append(&mut store, 9, 0, &Codes::<3>::of(&codes))?;
-    assert_eq!(rt; store.pages(9), 1);
-    append(&mut store, 9, 336, &Codes::<3>::of(&codes[..2]))?;
-    append(&mut store, 9, 338, &Codes::<3>::of(&codes[..0]))?;
-    append(&mut store, 9, 338, &Codes::<3>::of(&codes[2..3]))?;
-    assert_eq!(rt; store.pages(9), 2);
-    let mut list = CodeList::<3>::new(rt.alloc(), 16_777_216);
-    read(&mut store, 9, 339, &mut list)?;
-    let got = list.into_codes();
-    assert_eq!(rt; &got[..336], codes.as_slice());
-    assert_eq!(rt; &got[336..], &codes[..3]);
-    let mut low = CodeList::<3>::new(rt.alloc(), 16_777_215);
-    assert_eq!(rt;
-        read(&mut store, 9, 339, &mut low),
-        Err(PageFault::BadPage { object: 9, page: 0 })
-    );
-    rewrite(&mut store, 9, &Codes::<1>::of(&codes[3..6]))?;
-    assert_eq!(rt; store.pages(9), 1);
-    let mut page = [7; 1008];
-    read_page(&mut store, 9, 0, &mut page)?;
-    assert_eq!(rt; &page[..4], &[3, 4, 5, 0][..]);
-    assert_eq!(rt;
-        read_page(&mut store, 9, 1, &mut page),
-        Err(PageFault::BadPage { object: 9, page: 1 })
-    );
+    let few = vec![in rt.alloc(); 5u32, 16_777_215]?;
+    put(&rt, &mut store, 0, &codes)?;
+    assert!(rt; store.pages(9) == 1);
+    put(&rt, &mut store, 336, &few)?;
+    put(&rt, &mut store, 338, &[])?;
+    put(&rt, &mut store, 338, &few)?;
+    assert!(rt; store.pages(9) == 2);
+    let all = got(rt.alloc(), &mut store, 340, 16_777_216)?;
+    codes.extend_from_slice(&few)?;
+    codes.extend_from_slice(&few)?;
+    assert!(rt; all.as_slice() == codes.as_slice());
+    let bad = Err(PageFault::BadPage { object: 9, page: 0 });
+    assert!(rt; got(rt.alloc(), &mut store, 340, 16_777_215) == bad);
     Ok(())
+}
+
+#[test]
+fn an_object_of_codes_is_made_anew(rt: HostRuntime) -> Result<(), Fail> {
+    let mut store = sure(rt.alloc());
+    let first = vec![in rt.alloc(); 1u32, 2, 3]?;
+    let other = vec![in rt.alloc(); 250u32, 4]?;
+    put(&rt, &mut store, 0, &first)?;
+    renew(&rt, &mut store, &other)?;
+    assert!(rt; store.pages(9) == 1);
+    assert!(rt; page(&mut store, 0)?[..3] == [250, 4, 0]);
+    let none = Err(PageFault::BadPage { object: 9, page: 1 });
+    assert!(rt; page(&mut store, 1) == none);
+    Ok(())
+}
+
+// Cells behind so many of object 2.
+fn put_cells(
+    rt: &impl Abort,
+    store: &mut MemoryPages,
+    count: u32,
+    cells: &Cells,
+) -> Result<(), PageFault> {
+    assert!(rt; cells.kind() == Kind::Big && cells.len() < 1_000 && count < 1_000);
+    append(store, 2, count, cells)
+}
+
+fn put_behind(
+    rt: &impl Abort,
+    store: &mut MemoryPages,
+    count: u32,
+    cells: &Cells,
+    last: &Page,
+) -> Result<(), PageFault> {
+    assert!(rt; cells.kind() == Kind::Big && cells.len() < 1_000 && count < 1_000);
+    append_behind(store, 2, count, cells, last)
+}
+
+fn got_cells(alloc: Global, store: &mut MemoryPages, count: u32) -> Result<Cells, PageFault> {
+    let mut cells = Cells::new(alloc, Kind::Big);
+    read(store, 2, count, &mut cells)?;
+    Ok(cells)
+}
+
+// A page that begins with the cells from one on.
+fn page_from(rt: &impl Abort, cells: &Cells, from: usize) -> Page {
+    let mut page = [0; 1008];
+    assert!(rt; cells.kind() == Kind::Big && from <= cells.len());
+    assert!(rt; cells.len() - from <= 112);
+    cells.put_in_page(from, cells.len() - from, &mut page, 0);
+    page
 }
 
 #[test]
@@ -49,29 +126,17 @@ fn cells_go_behind_a_last_page_that_is_known(rt: HostRuntime) -> Result<(), Fail
     let first = numbers(rt.alloc(), Kind::Big, 0, 115)?;
     let more = numbers(rt.alloc(), Kind::Big, 115, 300)?;
     let all = numbers(rt.alloc(), Kind::Big, 0, 300)?;
-    assert!(rt; first.kind() == Kind::Big && first.len() == 115);
-    append(&mut store, 2, 0, &first)?;
-    let mut last = [0; 1008];
-    first.put_in_page(112, 3, &mut last, 0);
-    assert!(rt; more.kind() == Kind::Big && more.len() == 185);
-    append_behind(&mut store, 2, 115, &more, &last)?;
-    assert_eq!(rt; store.pages(2), 3);
-    let mut got = Cells::new(rt.alloc(), Kind::Big);
-    read(&mut store, 2, 300, &mut got)?;
+    put_cells(&rt, &mut store, 0, &first)?;
+    let last = page_from(&rt, &first, 112);
+    put_behind(&rt, &mut store, 115, &more, &last)?;
+    assert!(rt; store.pages(2) == 3);
+    let got = got_cells(rt.alloc(), &mut store, 300)?;
     assert_same(&rt, &got, &all);
     // An object that has a page too few.
-    assert_eq!(rt;
-        append_behind(&mut store, 2, 500, &more, &last),
-        Err(PageFault::BadPage { object: 2, page: 3 })
-    );
-    assert_eq!(rt;
-        append(&mut store, 2, 500, &more),
-        Err(PageFault::BadPage { object: 2, page: 4 })
-    );
-    let mut past = Cells::new(rt.alloc(), Kind::Big);
-    assert_eq!(rt;
-        read(&mut store, 2, 337, &mut past),
-        Err(PageFault::BadPage { object: 2, page: 3 })
-    );
+    let third = PageFault::BadPage { object: 2, page: 3 };
+    let fourth = PageFault::BadPage { object: 2, page: 4 };
+    assert!(rt; put_behind(&rt, &mut store, 500, &more, &last) == Err(third));
+    assert!(rt; put_cells(&rt, &mut store, 500, &more) == Err(fourth));
+    assert!(rt; got_cells(rt.alloc(), &mut store, 337).err() == Some(third));
     Ok(())
 }

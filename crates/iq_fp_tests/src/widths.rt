@@ -34,9 +34,12 @@ fn assert_row(
     want: &Value,
 ) -> Result<(), Fail> {
     let got = whole(alloc, fp, store)?;
-    assert_eq!(rt; got.len(), fp.slots as usize);
-    assert_eq!(rt; value_of(rt, fp, store, row)?, want.again(), "row {row}");
-    assert_eq!(rt; value_at(rt, &got, row as usize), want.again(), "row {row}");
+    assert!(rt; got.len() == fp.slots as usize);
+    assert!(rt; value_of(rt, fp, store, row)? == want.again(), "row {row}");
+    assert!(rt;
+        value_at(rt, &got, row as usize) == want.again(),
+        "row {row}"
+    );
     Ok(())
 }
 
@@ -56,9 +59,9 @@ fn assert_found(
     };
     let found = scanned(alloc, fp, store, &test, Side::True)?;
     let others = scanned(alloc, fp, store, &test, Side::False)?;
-    assert_eq!(rt; (found.count(), others.count()), want);
+    assert!(rt; (found.count(), others.count()) == want);
     let values = chosen(rt, alloc, fp, store, &found)?;
-    assert_eq!(rt; values.len(), want.0 as usize);
+    assert!(rt; values.len() == want.0 as usize);
     Ok(())
 }
 
@@ -74,7 +77,7 @@ fn values_come_back_in_each_form(rt: HostRuntime) -> Result<(), Fail> {
     for (count, distinct, bytes) in &cases {
         let mut store = sure(rt.alloc());
         let fp = filled(&rt, rt.alloc(), &mut store, *count)?;
-        assert_eq!(rt; (fp.distinct, code_bytes(fp.distinct)), (*distinct, *bytes));
+        assert!(rt; (fp.distinct, code_bytes(fp.distinct)) == (*distinct, *bytes));
         let last = Value::Int(*count - 1);
         let end = fp.slots.max(2);
         assert_row(&rt, rt.alloc(), &fp, &mut store, 0, &Value::Null)?;
@@ -96,9 +99,9 @@ fn one_statement_widens_codes_from_one_byte_to_three(rt: HostRuntime) -> Result<
     let mut want = ints(rt.alloc(), Kind::Big, &[Some(9), None, Some(9), Some(-1)])?;
     let more = numbers(rt.alloc(), Kind::Big, -1, 65_600)?;
     put(&rt, rt.alloc(), &mut fp, &mut store, &want)?;
-    assert_eq!(rt; code_bytes(fp.distinct), 1);
+    assert!(rt; code_bytes(fp.distinct) == 1);
     put(&rt, rt.alloc(), &mut fp, &mut store, &more)?;
-    assert_eq!(rt; (fp.distinct, code_bytes(fp.distinct)), (65_602, 3));
+    assert!(rt; (fp.distinct, code_bytes(fp.distinct)) == (65_602, 3));
     for number in -1..65_600 {
         want.push_number(number).map_err(|_| "no BIGINT")?;
     }
