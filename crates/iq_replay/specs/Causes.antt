@@ -1,5 +1,6 @@
 -- The causes of a refused line: the first that its tests find, and those that it can meet beside it.
 use Rattle.std.specs.Prelude.{◌≡◌, ◌⊎◌, ℕ, ⊤, Bool, true, false, Some}
+use Rattle.std.specs.List.{slice_get}
 use Rattle.iq_base.specs.declared.refusals.Refusal.{Refusal}
 use Rattle.iq_base.specs.declared.refusals.Refusal.TheVariants as refusals
 use Rattle.iq_ast.specs.declared.statements.Statement.{Statement}
@@ -10,7 +11,7 @@ use Rattle.iq_statements.specs.Checks.{first_refusal}
 use Rattle.iq_statements.specs.Statements.{IsOnTables, IsWrite}
 use Rattle.iq_replay.specs.State.{State, Session}
 use Rattle.iq_replay.specs.Asked.{IsRunning, IsOpen, HoldsAll, IsGranted, Rises, Counts}
-use Rattle.iq_replay.specs.Refusals.{line_checks, checks_below, checks_but}
+use Rattle.iq_replay.specs.Refusals.{lost_refusal, line_checks, checks_below, checks_but}
 
 -- The cause is the first that the tests find. For a write whose names are held a halt isn't looked at, since it may have come
 -- after the lock.
@@ -70,7 +71,7 @@ pub record IsHalted (s : State) (place : ℕ) (session : Session) (statement : S
 --   NoMemory: free, before the effect.
 abbrev pub IsMet : State → ℕ → Session → Statement → Refusal → Type 0
 IsMet s place session statement (refusals.Lost incarnation) =
-    first_refusal (line_checks s place session statement) ≡ Some (refusals.Lost incarnation)
+    lost_refusal (slice_get s.nodes session.node) session.standing ≡ Some (refusals.Lost incarnation)
 IsMet s place session statement (refusals.Halted c) = (s.halted ≡ Some c) × IsHalted s place session statement
 IsMet s place session statement (refusals.NoSpace census) =
     IsTaking s place session statement × (census.free ≡ 0) × Counts s.blocks census
