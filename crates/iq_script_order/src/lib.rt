@@ -1,0 +1,2 @@
+//! In script order a run is fixed.
+#![tactic(auto)]
