@@ -4,3 +4,4 @@ pub mod Checks
 pub mod Next
 pub mod Steps
 pub mod Sound
+pub mod Goes

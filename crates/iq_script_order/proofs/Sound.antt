@@ -63,7 +63,7 @@ coordinators-changed zero f (first ∷ nodes) here all (suc m) node is kind = al
 coordinators-changed (suc n) f (first ∷ nodes) here all zero node is kind = all zero node is kind
 coordinators-changed (suc n) f (first ∷ nodes) here all (suc m) node is kind = coordinators-changed n f nodes here (λ k. all (suc k)) m node is kind
 
-AreSound-changed : (n : ℕ) (f : Node → Node) (nodes : List Node) → ((node : Node) → (f node).name ≡ node.name)
+pub AreSound-changed : (n : ℕ) (f : Node → Node) (nodes : List Node) → ((node : Node) → (f node).name ≡ node.name)
     → ((node : Node) → slice_get nodes n ≡ Some node → is_coordinator (f node).kind ≡ true → (f node).excluded ≡ false) → AreSound nodes → AreSound (changed_at n f nodes)
 AreSound-changed n f nodes same here h = record {
         distinct = rw (names-changed n f nodes same) h.distinct;
@@ -97,7 +97,7 @@ pub record IsSound (s : State) : Type 0 where
   pub sessions : (p : ℕ) (session : Session) → slice_get s.sessions p ≡ Some session → IsSoundSession s.nodes session
 
 -- all sessions are sound where the one that changed is
-sound_changed : (nodes : List Node) (sessions : List Session) (q : ℕ) (f : Session → Session)
+pub sound_changed : (nodes : List Node) (sessions : List Session) (q : ℕ) (f : Session → Session)
     → ((session : Session) → slice_get sessions q ≡ Some session → IsSoundSession nodes (f session))
     → ((p : ℕ) (session : Session) → slice_get sessions p ≡ Some session → IsSoundSession nodes session)
     → (p : ℕ) (session : Session) → slice_get (changed_at q f sessions) p ≡ Some session → IsSoundSession nodes session
@@ -116,12 +116,12 @@ sound_changed nodes sessions q f here all p session is = at_place (eqb_tells q p
 
 -- STANDINGS
 
-included_run : (o : Option Node) (f : Run → Run) (standing : Standing) → IncludedAt o standing → IncludedAt o (on_run f standing)
+pub included_run : (o : Option Node) (f : Run → Run) (standing : Standing) → IncludedAt o standing → IncludedAt o (on_run f standing)
 included_run o f idle h = tt
 included_run o f lost h = tt
 included_run o f (running run) h = h
 
-included_refused : (o : Option Node) (cause : Refusal) (standing : Standing) → IncludedAt o standing → IncludedAt o (after_refusal cause standing)
+pub included_refused : (o : Option Node) (cause : Refusal) (standing : Standing) → IncludedAt o standing → IncludedAt o (after_refusal cause standing)
 included_refused o cause idle h = tt
 included_refused o cause lost h = at_told (tells_lost cause)
   where
@@ -134,14 +134,14 @@ included_refused o cause (running run) h = at_own run.own
     at_own true = tt
     at_own false = h
 
-sound_refused : (nodes : List Node) (l : ℕ) (cause : Refusal) (session : Session) → IsSoundSession nodes session → IsSoundSession nodes (refused l cause session)
+pub sound_refused : (nodes : List Node) (l : ℕ) (cause : Refusal) (session : Session) → IsSoundSession nodes session → IsSoundSession nodes (refused l cause session)
 sound_refused nodes l cause session h = record { included = included_refused _ cause session.standing h.included; head = tt }
 
-sound_rolls : (nodes : List Node) (l : ℕ) (session : Session) → IsSoundSession nodes session → IsSoundSession nodes (rolls_back l session)
+pub sound_rolls : (nodes : List Node) (l : ℕ) (session : Session) → IsSoundSession nodes session → IsSoundSession nodes (rolls_back l session)
 sound_rolls nodes zero session h = record { included = tt; head = h.head }
 sound_rolls nodes (suc l) session h = record { included = tt; head = tt }
 
-sound_begins : (nodes : List Node) (l c : ℕ) (db : Database) (session : Session) (o : Option Statement) → statement_of session.left ≡ o → IsIncluded (slice_get nodes session.node)
+pub sound_begins : (nodes : List Node) (l c : ℕ) (db : Database) (session : Session) (o : Option Statement) → statement_of session.left ≡ o → IsIncluded (slice_get nodes session.node)
     → IsSoundSession nodes session → IsSoundSession nodes (begins o l c db session)
 sound_begins nodes l c db session None is included h = h
 sound_begins nodes l c db session (Some statements.Begin) is included h = record { included = included; head = tt }
@@ -149,7 +149,7 @@ sound_begins nodes l c db session (Some (statements.Write write)) is included h 
 sound_begins nodes l c db session (Some (statements.Select select)) is included h = record { included = included; head = tt }
 sound_begins nodes l c db session (Some other) is included h = h
 
-sound_takes : (nodes : List Node) (l : ℕ) (session : Session) (statement : Statement) → statement_of session.left ≡ Some statement → IsOnTables statement → IsSoundSession nodes session
+pub sound_takes : (nodes : List Node) (l : ℕ) (session : Session) (statement : Statement) → statement_of session.left ≡ Some statement → IsOnTables statement → IsSoundSession nodes session
     → IsSoundSession nodes (takes_effect (statement_of session.left) l session)
 sound_takes nodes l session statement is tables h = rw is (at_standing session.standing h.included)
   where
@@ -164,17 +164,17 @@ sound_takes nodes l session statement is tables h = rw is (at_standing session.s
 
 -- NODES OF SESSIONS
 
-included_kept : (n m : ℕ) (f : Node → Node) (nodes : List Node) → ((node : Node) → node.excluded ≡ false → (f node).excluded ≡ false) → IsIncluded (slice_get nodes m) → IsIncluded (slice_get (changed_at n f nodes) m)
+pub included_kept : (n m : ℕ) (f : Node → Node) (nodes : List Node) → ((node : Node) → node.excluded ≡ false → (f node).excluded ≡ false) → IsIncluded (slice_get nodes m) → IsIncluded (slice_get (changed_at n f nodes) m)
 included_kept n m f [] keeps h = h
 included_kept zero zero f (node ∷ nodes) keeps h = keeps node h
 included_kept zero (suc m) f (node ∷ nodes) keeps h = h
 included_kept (suc n) zero f (node ∷ nodes) keeps h = h
 included_kept (suc n) (suc m) f (node ∷ nodes) keeps h = included_kept n m f nodes keeps h
 
-included_at_kept : (standing : Standing) (o o' : Option Node) → (IsIncluded o → IsIncluded o') → IncludedAt o standing → IncludedAt o' standing
+pub included_at_kept : (standing : Standing) (o o' : Option Node) → (IsIncluded o → IsIncluded o') → IncludedAt o standing → IncludedAt o' standing
 included_at_kept idle o o' keeps h = tt
 included_at_kept lost o o' keeps h = tt
 included_at_kept (running run) o o' keeps h = keeps h
 
-sound_nodes : (nodes : List Node) (n : ℕ) (f : Node → Node) (session : Session) → ((node : Node) → node.excluded ≡ false → (f node).excluded ≡ false) → IsSoundSession nodes session → IsSoundSession (changed_at n f nodes) session
+pub sound_nodes : (nodes : List Node) (n : ℕ) (f : Node → Node) (session : Session) → ((node : Node) → node.excluded ≡ false → (f node).excluded ≡ false) → IsSoundSession nodes session → IsSoundSession (changed_at n f nodes) session
 sound_nodes nodes n f session keeps h = record { included = included_at_kept session.standing _ _ (included_kept n session.node f nodes keeps) h.included; head = h.head }
