@@ -33,7 +33,7 @@ use Rattle.iq_script_order.proofs.Sound.{IsNumbered-change, AreSound, AreSound-c
 -- SESSIONS OF AN ENTRY
 
 -- a session's line as its first statement
-head_is : (session : Session) (line : Line) (lines : List Line) (statement : Statement) → session.left ≡ line ∷ lines → line.deed ≡ deeds.Statement statement → statement_of session.left ≡ Some statement
+pub head_is : (session : Session) (line : Line) (lines : List Line) (statement : Statement) → session.left ≡ line ∷ lines → line.deed ≡ deeds.Statement statement → statement_of session.left ≡ Some statement
 head_is session line lines statement left deed = ap statement_of left ∙ ap deed_statement deed
 
 same_session : (o : Option Session) (session found : Session) → o ≡ Some session → o ≡ Some found → found ≡ session
@@ -124,7 +124,7 @@ halted_stays s (entries.Refused (Some q) l cause) u none = none
 halted_stays s (entries.Halt q l c before after) u none = absurd u
 halted_stays s other u none = none
 
-include_kind : (s : State) (n : ℕ) → AreSound s.nodes → (node : Node) → slice_get s.nodes n ≡ Some node → node.excluded ≡ true → is_coordinator node.kind ≡ false
+pub include_kind : (s : State) (n : ℕ) → AreSound s.nodes → (node : Node) → slice_get s.nodes n ≡ Some node → node.excluded ≡ true → is_coordinator node.kind ≡ false
 include_kind s n sound node is excluded = at_kind (is_coordinator node.kind) refl
   where
     at_kind : (b : Bool) → is_coordinator node.kind ≡ b → is_coordinator node.kind ≡ false

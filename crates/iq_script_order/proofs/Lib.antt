@@ -5,3 +5,5 @@ pub mod Next
 pub mod Steps
 pub mod Sound
 pub mod Goes
+pub mod Same
+pub mod Found
