@@ -7,3 +7,5 @@ pub mod Sound
 pub mod Goes
 pub mod Same
 pub mod Found
+pub mod Fixed
+pub mod Early

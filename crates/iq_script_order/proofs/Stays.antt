@@ -21,7 +21,7 @@ use Rattle.iq_script_order.proofs.Left.{has_number, left_in, left_of, First, Fir
 
 -- ENTRIES THAT CLOSE
 
-closes-zero : (e : Entry) → closes e ≡ true → line_of e ≡ 0
+pub closes-zero : (e : Entry) → closes e ≡ true → line_of e ≡ 0
 closes-zero (entries.Rollback q l) h = at_tell (eqb_tells l 0)
   where
     at_tell : ((nat_eq l 0 ≡ true) × (l ≡ 0)) ⊎ ((nat_eq l 0 ≡ false) × (l ≢ 0)) → l ≡ 0
@@ -78,7 +78,7 @@ none_left s n ended steps (in_steps k) = at_none (rw steps at k)
     at_none : false ≡ true → ⊥
     at_none q = cc q
 
-still-none : (k : ℕ) (sessions : List Session) → AllEnded sessions → first_running k sessions ≡ None
+pub still-none : (k : ℕ) (sessions : List Session) → AllEnded sessions → first_running k sessions ≡ None
 still-none k [] h = refl
 still-none k (session ∷ sessions) h = at_standing (still-none (k + 1) sessions h.1) session.standing refl h.0.no_run
   where
@@ -159,7 +159,7 @@ pub record Goes (low : ℕ) (s : State) (es : List Entry) : Type 0 where
   pub steps : (replay s es).steps ≡ []
 
 -- no line is left that is below the first entry's
-not_below : (s : State) (f : Entry) (fs : List Entry) (low n : ℕ) → Goes low s (f ∷ fs) → closes f ≡ false → 0 < n → n < line_of f → IsLeft n s → ⊥
+pub not_below : (s : State) (f : Entry) (fs : List Entry) (low n : ℕ) → Goes low s (f ∷ fs) → closes f ≡ false → 0 < n → n < line_of f → IsLeft n s → ⊥
 not_below s f fs low n h open_still some below left =
     none_left (replay s (f ∷ fs)) n h.sessions h.steps
       (IsLeft-replay s (f ∷ fs) n (line_of f) h.legal (from_here (h.ordered.1)) below some left)

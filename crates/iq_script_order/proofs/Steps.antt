@@ -23,7 +23,7 @@ use Rattle.iq_script_order.specs.Fixed.{no_census}
 
 -- NAMES OF NODES
 
-same_name-refl : (name : Name) → same_name name name ≡ true
+pub same_name-refl : (name : Name) → same_name name name ≡ true
 same_name-refl [] = refl
 same_name-refl (b ∷ bs) = at_tell (eqb_tells b b) (same_name-refl bs)
   where
