@@ -29,7 +29,7 @@ use Rattle.iq_script_order.proofs.Found.{SessionNext, StepNext, IsNext, of_sessi
 
 -- ONE NEXT ENTRY
 
-has_first : (l : ℕ) (line : Line) (lines : List Line) → line.number ≡ l → has_number l (line ∷ lines) ≡ true
+pub has_first : (l : ℕ) (line : Line) (lines : List Line) → line.number ≡ l → has_number l (line ∷ lines) ≡ true
 has_first l line lines number = at_tell (eqb_tells line.number l)
   where
     at_tell : ((nat_eq line.number l ≡ true) × (line.number ≡ l)) ⊎ ((nat_eq line.number l ≡ false) × (line.number ≢ l)) → (nat_eq line.number l || has_number l lines) ≡ true
@@ -140,7 +140,7 @@ pub record Closing (s : State) (e : Entry) : Type 0 where
   pub first : first_running 0 s.sessions ≡ Some place
   pub closed : (change s e).closing ≡ true
 
-closing_is : (s : State) (e : Entry) → IsPossible s e → closes e ≡ true → Closing s e
+pub closing_is : (s : State) (e : Entry) → IsPossible s e → closes e ≡ true → Closing s e
 unfolding IsPossible change
 closing_is s (entries.Rollback q zero) h k = record { place = q; is = refl; first = h; closed = refl }
 closing_is s (entries.Rollback q (suc l)) h k = absurd (at_tell (eqb_tells (suc l) 0))
@@ -166,11 +166,11 @@ pub record Runs (low : ℕ) (s : State) (es : List Entry) : Type 0 where
   pub some : 0 < low
   pub sound : IsSound s
 
-goes_behind : (low : ℕ) (s : State) (e : Entry) (es : List Entry) → Goes low s (e ∷ es) → Goes (low_after low e) (change s e) es
+pub goes_behind : (low : ℕ) (s : State) (e : Entry) (es : List Entry) → Goes low s (e ∷ es) → Goes (low_after low e) (change s e) es
 unfolding IsLegal replay
 goes_behind low s e es h = record { legal = h.legal.1; ordered = h.ordered.1; sessions = h.sessions; steps = h.steps }
 
-possible_first : (low : ℕ) (s : State) (e : Entry) (es : List Entry) → Goes low s (e ∷ es) → IsPossible s e
+pub possible_first : (low : ℕ) (s : State) (e : Entry) (es : List Entry) → Goes low s (e ∷ es) → IsPossible s e
 unfolding IsLegal
 possible_first low s e es h = h.legal.0
 
@@ -181,7 +181,7 @@ some_behind low e some h = at_close (closes e) h
     at_close true k = some
     at_close false k = omega (arith, some, leb-true low (line_of e) k)
 
-runs_behind : (low : ℕ) (s : State) (e : Entry) (es : List Entry) → Runs low s (e ∷ es) → Runs (low_after low e) (change s e) es
+pub runs_behind : (low : ℕ) (s : State) (e : Entry) (es : List Entry) → Runs low s (e ∷ es) → Runs (low_after low e) (change s e) es
 runs_behind low s e es h = record {
         goes = goes_behind low s e es h.goes;
         undisturbed = h.undisturbed.1;
@@ -193,14 +193,14 @@ runs_behind low s e es h = record {
 line_some : (low : ℕ) (e : Entry) → 0 < low → (closes e || nat_le low (line_of e)) ≡ true → closes e ≡ false → 0 < line_of e
 line_some low e some h open_still = omega (arith, some, leb-true low (line_of e) (rw open_still at h))
 
-first_some : (low : ℕ) (s : State) (e : Entry) (es : List Entry) → Runs low s (e ∷ es) → closes e ≡ false → 0 < line_of e
+pub first_some : (low : ℕ) (s : State) (e : Entry) (es : List Entry) → Runs low s (e ∷ es) → closes e ≡ false → 0 < line_of e
 first_some low s e es h open_still = line_some low e h.some h.goes.ordered.0 open_still
 
-first_left : (low : ℕ) (s : State) (e : Entry) (es : List Entry) → Runs low s (e ∷ es) → closes e ≡ false → IsLeft (line_of e) s
+pub first_left : (low : ℕ) (s : State) (e : Entry) (es : List Entry) → Runs low s (e ∷ es) → closes e ≡ false → IsLeft (line_of e) s
 first_left low s e es h open_still = line_left s e (possible_first low s e es h.goes) (first_some low s e es h open_still)
 
 -- a line that is left isn't closed over
-not_closed : (low n : ℕ) (s : State) (e : Entry) (es : List Entry) → Runs low s (e ∷ es) → closes e ≡ true → 0 < n → IsLeft n s → ⊥
+pub not_closed : (low n : ℕ) (s : State) (e : Entry) (es : List Entry) → Runs low s (e ∷ es) → closes e ≡ true → 0 < n → IsLeft n s → ⊥
 unfolding replay
 not_closed low n s e es h closing some left =
     none_left (replay (change s e) es) n h.goes.sessions h.goes.steps
@@ -208,7 +208,7 @@ not_closed low n s e es h closing some left =
         (IsLeft-change s e n (possible_first low s e es h.goes) (λ q. omega (arith, some, q, closes-zero e closing)) left))
 
 -- a line that is left isn't passed over
-passes : (low n : ℕ) (s : State) (e : Entry) (es : List Entry) → Runs low s (e ∷ es) → closes e ≡ false → 0 < n → IsLeft n s → line_of e ≤ n
+pub passes : (low n : ℕ) (s : State) (e : Entry) (es : List Entry) → Runs low s (e ∷ es) → closes e ≡ false → 0 < n → IsLeft n s → line_of e ≤ n
 passes low n s e es h open_still some left = at_less (leb_tells (suc n) (line_of e))
   where
     at_less : ((nat_le (suc n) (line_of e) ≡ true) × (suc n ≤ line_of e)) ⊎ ((nat_le (suc n) (line_of e) ≡ false) × (line_of e < suc n)) → line_of e ≤ n

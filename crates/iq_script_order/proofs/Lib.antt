@@ -9,3 +9,4 @@ pub mod Same
 pub mod Found
 pub mod Fixed
 pub mod Early
+pub mod Whole

@@ -186,7 +186,7 @@ next_lock s place l names session statement h = at_standing session.standing ref
 -- REFUSALS
 
 -- a first refusal before the line's effect is the next entry
-next_found : (s : State) (place l : ℕ) (session : Session) (statement : Statement) (cause : Refusal) → IsOpen session.stage → first_refusal (line_checks s place session statement) ≡ Some cause
+pub next_found : (s : State) (place l : ℕ) (session : Session) (statement : Statement) (cause : Refusal) → IsOpen session.stage → first_refusal (line_checks s place session statement) ≡ Some cause
     → next_of s place l session statement ≡ entries.Refused (Some place) l cause
 next_found s place l session statement cause open_still found = at_standing session.standing refl
   where
