@@ -1,8 +1,8 @@
 -- Tests of a line where nothing has halted: the test of a halt finds nothing.
-use Rattle.std.specs.Prelude.{◌≡◌, refl, ℕ, Bool, true, false, not, List, [], ◌∷◌, ◌++◌, Option, Some, None, nat_eq, nat_lt, filter, if◌then◌else◌}
-use Rattle.std.specs.List.{AllByRecursion, slice_get}
+use Rattle.std.specs.Prelude.{◌≡◌, refl, ℕ, Bool, true, false, List, [], ◌∷◌, ◌++◌, Option, Some, None, nat_eq, nat_lt}
+use Rattle.std.specs.List.{AllByRecursion}
 use Rattle.std.specs.Option.{option_or}
-use Rattle.std.proofs.Common.{◌∙◌, ap, sym}
+use Rattle.std.proofs.Common.{ap}
 use Rattle.iq_base.specs.Shorts.{Name}
 use Rattle.iq_base.specs.declared.refusals.Refusal.{Refusal}
 use Rattle.iq_ast.specs.declared.statements.Statement.{Statement}
@@ -11,11 +11,11 @@ use Rattle.iq_ast.specs.declared.statements.Write.{Write}
 use Rattle.iq_ast.specs.declared.statements.Write.TheVariants as writes
 use Rattle.iq_statements.specs.Checks.{Check, first_refusal}
 use Rattle.iq_statements.specs.Tables.{Table, Database, table_of}
-use Rattle.iq_statements.specs.Named.{on_table, write_checks, query_checks}
+use Rattle.iq_statements.specs.Named.{on_table, write_checks}
 use Rattle.iq_statements.specs.Room.{at_table, write_room}
 use Rattle.iq_statements.specs.Statements.{statement_checks, room_checks}
-use Rattle.iq_replay.specs.State.{State, Session, Standing, idle, lost, running, Run}
-use Rattle.iq_replay.specs.Refusals.{halted_refusal, asks_commits, run_checks, line_checks, checks_but, checks_below}
+use Rattle.iq_replay.specs.State.{State, Session, Standing, idle, lost, running}
+use Rattle.iq_replay.specs.Refusals.{halted_refusal, run_checks, line_checks, checks_but, checks_below}
 
 -- ORDERS
 
@@ -79,7 +79,7 @@ line_checks-quiet s place session statement none = ((λ q. cc q), ((λ q. cc q),
     at_standing lost = tt
     at_standing (running run) =
         AllByRecursion-append IsQuiet (statement_checks statement run.start.seen) _ (quiet_of_apart _ (statement_checks-apart statement run.start.seen))
-          ((λ q. rw none refl), ((λ q. cc q), ((λ q. cc q), quiet_of_apart _ (room_checks-apart statement run.start.seen))))
+        ((λ q. rw none refl), ((λ q. cc q), ((λ q. cc q), quiet_of_apart _ (room_checks-apart statement run.start.seen))))
 
 -- FIRST REFUSALS
 

@@ -1,18 +1,17 @@
 -- A lock before a refusal by a test behind the locks: the refusal comes next, and leaves the same as without the lock.
-use Rattle.std.specs.Prelude.{◌≡◌, ◌≢◌, ◌⊎◌, refl, ℕ, zero, suc, ◌+◌, ⊤, Bool, true, false, not, ◌&&◌, ◌||◌, List, [], ◌∷◌, ◌++◌, Option, Some, None, filter, is_some, nat_eq, nat_lt, if◌then◌else◌}
-use Rattle.std.specs.List.{slice_get, list_any}
-use Rattle.std.specs.Option.{option_or, option_map}
-use Rattle.std.proofs.Common.{◌∙◌, arith, ap, sym, inl, inr}
+use Rattle.std.specs.Prelude.{◌≡◌, refl, ℕ, zero, suc, Bool, true, false, ◌||◌, List, [], ◌∷◌, ◌++◌, Option, Some, None, nat_lt, if◌then◌else◌}
+use Rattle.std.specs.List.{slice_get}
+use Rattle.std.specs.Option.{option_or}
+use Rattle.std.proofs.Common.{◌∙◌, ap, sym}
 use Rattle.iq_base.specs.Shorts.{Name}
 use Rattle.iq_base.specs.declared.refusals.Refusal.{Refusal}
 use Rattle.iq_ast.specs.declared.statements.Statement.{Statement}
 use Rattle.iq_ast.specs.declared.statements.Statement.TheVariants as statements
 use Rattle.iq_ast.specs.declared.statements.Write.{Write}
-use Rattle.iq_history.specs.declared.entries.Entry.TheVariants as entries
 use Rattle.iq_model.specs.declared.replies.Said.TheVariants as said
 use Rattle.iq_conditions.specs.Servers.{same_name}
-use Rattle.iq_statements.specs.Checks.{Check, first_refusal, first_found, found_if}
-use Rattle.iq_statements.specs.Statements.{statement_checks, room_checks, names_of, is_ddl}
+use Rattle.iq_statements.specs.Checks.{Check, first_refusal, first_found}
+use Rattle.iq_statements.specs.Statements.{statement_checks, room_checks, names_of}
 use Rattle.iq_replay.specs.State.{State, Session, Standing, idle, lost, running, Run, Node, changed_at, has_name, not_held, has_some}
 use Rattle.iq_replay.specs.Refusals.{wanted, locked_refusal, later_refusal, halted_refusal, lost_refusal, excluded_refusal, at_node, reader_refusal, before_line, transaction_refusal, line_checks, checks_below}
 use Rattle.iq_replay.specs.Asked.{IsRunning}
@@ -64,14 +63,14 @@ none_wanted held names = all_held held (not_held held names) names (λ m k. k)
 abbrev pub first_by : State → Session → Write → Run → Option Refusal → Option Refusal → Option Refusal → Option Refusal
 first_by s session write run transaction locked later =
     option_or (at_node excluded_refusal (slice_get s.nodes session.node))
-      (option_or transaction
-        (option_or (reader_refusal (slice_get s.nodes session.node) (statements.Write write))
-          (first_refusal
-            (statement_checks (statements.Write write) run.start.seen
-            ++ record { order = 7; found = halted_refusal s.halted true }
-            ∷ record { order = 8; found = locked }
-            ∷ record { order = 9; found = later }
-            ∷ room_checks (statements.Write write) run.start.seen))))
+    (option_or transaction
+    (option_or (reader_refusal (slice_get s.nodes session.node) (statements.Write write))
+    (first_refusal
+    (statement_checks (statements.Write write) run.start.seen
+    ++ record { order = 7; found = halted_refusal s.halted true }
+    ∷ record { order = 8; found = locked }
+    ∷ record { order = 9; found = later }
+    ∷ room_checks (statements.Write write) run.start.seen))))
 
 no_loss : (o : Option Node) (run : Run) → lost_refusal o (running run) ≡ None
 no_loss None run = refl
@@ -81,7 +80,7 @@ no_loss (Some node) run = refl
 first_is : (s : State) (place : ℕ) (session : Session) (write : Write) (run : Run) → session.standing ≡ running run
     → first_refusal (line_checks s place session (statements.Write write))
     ≡ first_by s session write run (transaction_refusal (before_line (running run)) (statements.Write write))
-        (first_found (locked_refusal s.sessions place) (wanted (statements.Write write) run)) (first_found (later_refusal s.wrote run.snapshot) (wanted (statements.Write write) run))
+    (first_found (locked_refusal s.sessions place) (wanted (statements.Write write) run)) (first_found (later_refusal s.wrote run.snapshot) (wanted (statements.Write write) run))
 first_is s place session write run is = rw (is, no_loss (slice_get s.nodes session.node) run) refl
 
 -- the names that a lock puts to a transaction change nothing in what its transaction's test finds
@@ -117,31 +116,31 @@ granted_behind : (s : State) (place : ℕ) (session : Session) (write : Write) (
     → first_refusal (checks_below 10 (behind_names s place write run)) ≡ None
 granted_behind s place session write run is granted =
     rest_below 10 (statement_checks (statements.Write write) run.start.seen) (behind_names s place write run)
-      (rest_below 10
-        (record { order = 2; found = lost_refusal (slice_get s.nodes session.node) (running run) }
-        ∷ record { order = 2; found = at_node excluded_refusal (slice_get s.nodes session.node) }
-        ∷ record { order = 3; found = transaction_refusal (before_line (running run)) (statements.Write write) }
-        ∷ record { order = 4; found = reader_refusal (slice_get s.nodes session.node) (statements.Write write) }
-        ∷ [])
-        (statement_checks (statements.Write write) run.start.seen ++ behind_names s place write run) (rw is at granted))
+    (rest_below 10
+    (record { order = 2; found = lost_refusal (slice_get s.nodes session.node) (running run) }
+    ∷ record { order = 2; found = at_node excluded_refusal (slice_get s.nodes session.node) }
+    ∷ record { order = 3; found = transaction_refusal (before_line (running run)) (statements.Write write) }
+    ∷ record { order = 4; found = reader_refusal (slice_get s.nodes session.node) (statements.Write write) }
+    ∷ [])
+    (statement_checks (statements.Write write) run.start.seen ++ behind_names s place write run) (rw is at granted))
 
 nothing_locked : (s : State) (place : ℕ) (session : Session) (write : Write) (run : Run) → session.standing ≡ running run → first_refusal (checks_below 10 (line_checks s place session (statements.Write write))) ≡ None
     → first_found (locked_refusal s.sessions place) (wanted (statements.Write write) run) ≡ None
 nothing_locked s place session write run is granted =
     found_below 10 (record { order = 7; found = halted_refusal s.halted true } ∷ [])
-      (record { order = 8; found = first_found (locked_refusal s.sessions place) (wanted (statements.Write write) run) })
-      (record { order = 9; found = first_found (later_refusal s.wrote run.snapshot) (wanted (statements.Write write) run) } ∷ room_checks (statements.Write write) run.start.seen)
-      (granted_behind s place session write run is granted) refl
+    (record { order = 8; found = first_found (locked_refusal s.sessions place) (wanted (statements.Write write) run) })
+    (record { order = 9; found = first_found (later_refusal s.wrote run.snapshot) (wanted (statements.Write write) run) } ∷ room_checks (statements.Write write) run.start.seen)
+    (granted_behind s place session write run is granted) refl
 
 nothing_later : (s : State) (place : ℕ) (session : Session) (write : Write) (run : Run) → session.standing ≡ running run → first_refusal (checks_below 10 (line_checks s place session (statements.Write write))) ≡ None
     → first_found (later_refusal s.wrote run.snapshot) (wanted (statements.Write write) run) ≡ None
 nothing_later s place session write run is granted =
     found_below 10
-      (record { order = 7; found = halted_refusal s.halted true }
-      ∷ record { order = 8; found = first_found (locked_refusal s.sessions place) (wanted (statements.Write write) run) } ∷ [])
-      (record { order = 9; found = first_found (later_refusal s.wrote run.snapshot) (wanted (statements.Write write) run) })
-      (room_checks (statements.Write write) run.start.seen)
-      (granted_behind s place session write run is granted) refl
+    (record { order = 7; found = halted_refusal s.halted true }
+    ∷ record { order = 8; found = first_found (locked_refusal s.sessions place) (wanted (statements.Write write) run) } ∷ [])
+    (record { order = 9; found = first_found (later_refusal s.wrote run.snapshot) (wanted (statements.Write write) run) })
+    (room_checks (statements.Write write) run.start.seen)
+    (granted_behind s place session write run is granted) refl
 
 -- THE STATE BEHIND THE LOCK
 
@@ -155,7 +154,7 @@ first_behind : (s : State) (place : ℕ) (names : List Name) (session : Session)
 first_behind s place names session write run is named granted =
     first_is (after_lock s place names) place (locks_more names session) write (holds_more names run) (ap (on_run (holds_more names)) is)
     ∙ ap (λ (ns : List Name). first_by s session write run (transaction_refusal (before_line (running (holds_more names run))) (statements.Write write))
-        (first_found (locked_refusal (after_lock s place names).sessions place) ns) (first_found (later_refusal s.wrote run.snapshot) ns)) none
+    (first_found (locked_refusal (after_lock s place names).sessions place) ns) (first_found (later_refusal s.wrote run.snapshot) ns)) none
     ∙ ap (λ (o : Option Refusal). first_by s session write run o None None) (same_before run names write)
     ∙ ap (λ (o : Option Refusal). first_by s session write run (transaction_refusal (before_line (running run)) (statements.Write write)) o None) (sym (nothing_locked s place session write run is granted))
     ∙ ap (λ (o : Option Refusal). first_by s session write run (transaction_refusal (before_line (running run)) (statements.Write write)) (first_found (locked_refusal s.sessions place) (wanted (statements.Write write) run)) o) (sym (nothing_later s place session write run is granted))

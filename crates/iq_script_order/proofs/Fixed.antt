@@ -1,31 +1,28 @@
 -- Two undisturbed histories in script order leave the same.
-use Rattle.std.specs.Prelude.{◌≡◌, ◌≢◌, ◌⊎◌, ◌<◌, ◌≤◌, refl, ℕ, zero, suc, ◌+◌, ⊤, Bool, true, false, ◌||◌, List, [], ◌∷◌, Option, Some, None, nat_eq, nat_le, if◌then◌else◌, IsSomeAnd}
+use Rattle.std.specs.Prelude.{◌≡◌, ◌≢◌, ◌⊎◌, ◌<◌, ◌≤◌, refl, ℕ, zero, suc, Bool, true, false, ◌||◌, List, [], ◌∷◌, Option, Some, None, nat_eq, nat_le, if◌then◌else◌, IsSomeAnd}
 use Rattle.std.specs.List.{slice_get, AllByRecursion}
-use Rattle.std.proofs.Common.{◌∙◌, arith, ap, sym, inl, inr}
-use Rattle.std.proofs.lemmas.Bool.{ne_eqb, leb-true, le-leb}
+use Rattle.std.proofs.Common.{◌∙◌, arith, ap, inl, inr}
+use Rattle.std.proofs.lemmas.Bool.{leb-true}
 use Rattle.std.proofs.lemmas.Bool.Decides.{eqb_tells, leb_tells}
 use Rattle.iq_base.specs.Shorts.{Name}
 use Rattle.iq_base.specs.declared.refusals.Refusal.{Refusal}
-use Rattle.iq_ast.specs.declared.statements.Statement.{Statement}
 use Rattle.iq_history.specs.declared.entries.Entry.{Entry}
 use Rattle.iq_history.specs.declared.entries.Entry.TheVariants as entries
 use Rattle.iq_model.specs.declared.replies.Reply.{Reply}
-use Rattle.iq_model.specs.declared.scripts.Deed.TheVariants as deeds
 use Rattle.iq_model.specs.declared.scripts.Line.{Line}
 use Rattle.iq_model.specs.declared.scripts.Step.{Step}
 use Rattle.iq_replay.specs.State.{State, Session, Node}
-use Rattle.iq_replay.specs.Asked.{OfLine, OfStep, OfTurn}
+use Rattle.iq_replay.specs.Asked.{OfStep, OfTurn}
 use Rattle.iq_replay.specs.Lines.{CanRefuseStep, first_running}
 use Rattle.iq_replay.specs.Entries.{IsPossible, change}
-use Rattle.iq_replay.specs.Histories.{replay, IsLegal, IsInOrder, line_of, closes, low_after, AllEnded}
+use Rattle.iq_replay.specs.Histories.{replay, IsLegal, line_of, closes, low_after}
 use Rattle.iq_script_order.specs.Fixed.{IsUndisturbed}
 use Rattle.iq_script_order.proofs.Left.{has_number, left_in, left_of}
-use Rattle.iq_script_order.proofs.Stays.{closes-zero, IsLeft, in_session, in_steps, IsLeft-change, Goes, line_left, none_left, IsLeft-replay, not_below, still-none}
-use Rattle.iq_script_order.proofs.Steps.{entry_uncounted}
+use Rattle.iq_script_order.proofs.Stays.{closes-zero, IsLeft, in_session, in_steps, IsLeft-change, Goes, line_left, none_left, not_below}
 use Rattle.iq_script_order.proofs.Sound.{IsNumbered, IsSound}
 use Rattle.iq_script_order.proofs.Goes.{IsSound-change}
-use Rattle.iq_script_order.proofs.Same.{with_replies, Same, Same-refl, Same-sym, Same-trans, change_both}
-use Rattle.iq_script_order.proofs.Found.{SessionNext, StepNext, IsNext, of_session, of_steps, EarlyLock, Goes_on, goes_on}
+use Rattle.iq_script_order.proofs.Same.{with_replies, Same}
+use Rattle.iq_script_order.proofs.Found.{SessionNext, StepNext, IsNext, of_session, of_steps}
 
 -- ONE NEXT ENTRY
 
@@ -156,7 +153,7 @@ unfolding IsLegal replay
 closed_left s [] n h closing some left = left
 closed_left s (e ∷ es) n h closing some left =
     closed_left (change s e) es n h.1 (closing_is s e h.0 (closes_or s e h.0 closing)).closed some
-      (IsLeft-change s e n h.0 (λ q. omega (arith, some, q, closes-zero e (closes_or s e h.0 closing))) left)
+    (IsLeft-change s e n h.0 (λ q. omega (arith, some, q, closes-zero e (closes_or s e h.0 closing))) left)
 
 -- HISTORIES THAT GO ON
 
@@ -183,11 +180,11 @@ some_behind low e some h = at_close (closes e) h
 
 pub runs_behind : (low : ℕ) (s : State) (e : Entry) (es : List Entry) → Runs low s (e ∷ es) → Runs (low_after low e) (change s e) es
 runs_behind low s e es h = record {
-        goes = goes_behind low s e es h.goes;
-        undisturbed = h.undisturbed.1;
-        some = some_behind low e h.some h.goes.ordered.0;
-        sound = IsSound-change s e (possible_first low s e es h.goes) h.undisturbed.0 h.sound;
-    }
+  goes = goes_behind low s e es h.goes;
+  undisturbed = h.undisturbed.1;
+  some = some_behind low e h.some h.goes.ordered.0;
+  sound = IsSound-change s e (possible_first low s e es h.goes) h.undisturbed.0 h.sound;
+}
 
 -- an open entry's line isn't 0
 line_some : (low : ℕ) (e : Entry) → 0 < low → (closes e || nat_le low (line_of e)) ≡ true → closes e ≡ false → 0 < line_of e
@@ -204,8 +201,8 @@ pub not_closed : (low n : ℕ) (s : State) (e : Entry) (es : List Entry) → Run
 unfolding replay
 not_closed low n s e es h closing some left =
     none_left (replay (change s e) es) n h.goes.sessions h.goes.steps
-      (closed_left (change s e) es n (goes_behind low s e es h.goes).legal (closing_is s e (possible_first low s e es h.goes) closing).closed some
-        (IsLeft-change s e n (possible_first low s e es h.goes) (λ q. omega (arith, some, q, closes-zero e closing)) left))
+    (closed_left (change s e) es n (goes_behind low s e es h.goes).legal (closing_is s e (possible_first low s e es h.goes) closing).closed some
+    (IsLeft-change s e n (possible_first low s e es h.goes) (λ q. omega (arith, some, q, closes-zero e closing)) left))
 
 -- a line that is left isn't passed over
 pub passes : (low n : ℕ) (s : State) (e : Entry) (es : List Entry) → Runs low s (e ∷ es) → closes e ≡ false → 0 < n → IsLeft n s → line_of e ≤ n

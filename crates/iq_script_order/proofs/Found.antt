@@ -1,12 +1,10 @@
 -- Each undisturbed entry that is possible is the next one of its line, or a lock before a refusal.
-use Rattle.std.specs.Prelude.{◌≡◌, ◌≢◌, ◌⊎◌, ◌<◌, refl, ℕ, zero, suc, ◌+◌, ⊤, Bool, true, false, List, [], ◌∷◌, Option, Some, None, nat_eq, IsSomeAnd}
+use Rattle.std.specs.Prelude.{◌≡◌, ◌<◌, refl, ℕ, zero, suc, List, [], ◌∷◌, Option, Some, None, IsSomeAnd}
 use Rattle.std.specs.List.{slice_get}
 use Rattle.std.proofs.Common.{◌∙◌, arith, ap, sym, inl, inr}
 use Rattle.iq_base.specs.Shorts.{Name}
 use Rattle.iq_base.specs.declared.refusals.Refusal.{Refusal}
-use Rattle.iq_base.specs.declared.refusals.Refusal.TheVariants as refusals
 use Rattle.iq_ast.specs.declared.statements.Statement.{Statement}
-use Rattle.iq_ast.specs.declared.statements.Statement.TheVariants as statements
 use Rattle.iq_history.specs.declared.entries.Entry.{Entry}
 use Rattle.iq_history.specs.declared.entries.Entry.TheVariants as entries
 use Rattle.iq_model.specs.declared.scripts.Deed.{Deed}
@@ -16,20 +14,17 @@ use Rattle.iq_model.specs.declared.scripts.Step.{Step}
 use Rattle.iq_model.specs.declared.scripts.Step.TheVariants as steps
 use Rattle.iq_statements.specs.Checks.{first_refusal}
 use Rattle.iq_replay.specs.State.{State, Session, Stage, fresh, begun, locked, done, Standing, idle, lost, running, Run, Node}
-use Rattle.iq_replay.specs.Nodes.{is_coordinator}
-use Rattle.iq_replay.specs.Refusals.{line_checks, step_refusal}
+use Rattle.iq_replay.specs.Refusals.{line_checks}
 use Rattle.iq_replay.specs.Asked.{FirstIs, StepIs, OfLine, OfStep, OfTurn, IsRunning}
-use Rattle.iq_replay.specs.Lines.{CanBegin, CanLock, CanTake, CanEnd, CanCommit, CanEndWithout, CanRun, CanRefuseStep}
-use Rattle.iq_replay.specs.Causes.{CanRefuse}
+use Rattle.iq_replay.specs.Lines.{CanLock, CanRefuseStep}
 use Rattle.iq_replay.specs.Changes.{statement_of}
-use Rattle.iq_replay.specs.Entries.{IsPossible, change}
+use Rattle.iq_replay.specs.Entries.{IsPossible}
 use Rattle.iq_replay.specs.Histories.{line_of}
 use Rattle.iq_replay.proofs.Lines.{LineFound, OfLine-found}
 use Rattle.iq_script_order.specs.Fixed.{IsCertain, IsUndisturbed}
-use Rattle.iq_script_order.proofs.Left.{has_number, left_in, left_of}
 use Rattle.iq_script_order.proofs.Next.{next_of, LocksOr, goes, stops, IsOnTablesAt, IsIncluded, next_begin, next_lock, next_done, next_refused, next_rollback, next_savepoint, next_back, next_release, next_sync, next_commit, next_end}
-use Rattle.iq_script_order.proofs.Steps.{entry_uncounted, next_step, names_in, AreDistinct, step_apply, step_send, step_own, step_lose, step_take, step_restart, step_exclude, step_include, step_refused}
-use Rattle.iq_script_order.proofs.Sound.{IsNumbered, AreSound, IncludedAt, IsTablesHead, IsSoundSession, IsSound}
+use Rattle.iq_script_order.proofs.Steps.{entry_uncounted, next_step, step_apply, step_send, step_own, step_lose, step_take, step_restart, step_exclude, step_include, step_refused}
+use Rattle.iq_script_order.proofs.Sound.{IncludedAt, IsTablesHead, IsSound}
 use Rattle.iq_script_order.proofs.Goes.{head_is, include_kind}
 
 -- a session's line that goes on with an entry

@@ -1,34 +1,26 @@
 -- Undisturbed entries that are possible keep what holds of each state.
-use Rattle.std.specs.Prelude.{◌≡◌, ◌≢◌, ◌⊎◌, ◌<◌, refl, ℕ, zero, suc, ◌+◌, ⊤, Bool, true, false, List, [], ◌∷◌, Option, Some, None, map, nat_eq, IsSomeAnd}
+use Rattle.std.specs.Prelude.{◌≡◌, ◌≢◌, ◌⊎◌, refl, ℕ, Bool, true, false, List, ◌∷◌, Option, Some, None, map, nat_eq, IsSomeAnd}
 use Rattle.std.specs.List.{slice_get}
-use Rattle.std.specs.Option.{option_or, option_map}
-use Rattle.std.proofs.Common.{◌∙◌, arith, ap, sym, inl, inr}
+use Rattle.std.specs.Option.{option_map}
+use Rattle.std.proofs.Common.{◌∙◌, ap, sym, inl, inr}
 use Rattle.std.proofs.lemmas.Option.{slice_get-map}
-use Rattle.std.proofs.lemmas.Bool.{ne_eqb}
 use Rattle.std.proofs.lemmas.Bool.Decides.{eqb_tells}
-use Rattle.iq_base.specs.declared.refusals.Refusal.{Refusal}
-use Rattle.iq_base.specs.declared.refusals.Refusal.TheVariants as refusals
 use Rattle.iq_ast.specs.declared.statements.Statement.{Statement}
 use Rattle.iq_history.specs.declared.entries.Entry.{Entry}
 use Rattle.iq_history.specs.declared.entries.Entry.TheVariants as entries
-use Rattle.iq_model.specs.declared.scripts.Deed.{Deed}
 use Rattle.iq_model.specs.declared.scripts.Deed.TheVariants as deeds
 use Rattle.iq_model.specs.declared.scripts.Line.{Line}
-use Rattle.iq_model.specs.declared.scripts.Step.TheVariants as steps
-use Rattle.iq_statements.specs.Checks.{first_refusal}
-use Rattle.iq_replay.specs.State.{State, Session, Standing, idle, lost, running, Run, Node, Report, changed_at, moved_to}
-use Rattle.iq_replay.specs.Nodes.{is_coordinator, node_position, report_of}
+use Rattle.iq_replay.specs.State.{State, Session, Standing, idle, lost, running, Node, Report, changed_at, moved_to}
+use Rattle.iq_replay.specs.Nodes.{is_coordinator, report_of}
 use Rattle.iq_replay.specs.Commits.{database_of}
-use Rattle.iq_replay.specs.Refusals.{lost_refusal, excluded_refusal, at_node, line_checks}
-use Rattle.iq_replay.specs.Asked.{OfStep, IsSecondary}
 use Rattle.iq_replay.specs.Lines.{CanBegin, CanTake}
-use Rattle.iq_replay.specs.Changes.{statement_of, deed_statement, holds_more, saves_as, back_to, release_to, on_run, begins, takes_effect, after_refusal, refused, rolls_back, loses_run, loses, nodes_at, taken_up, nodes_taking, restarted, excluded, included}
+use Rattle.iq_replay.specs.Changes.{statement_of, deed_statement, holds_more, saves_as, back_to, release_to, takes_effect, loses_run, loses, nodes_at, taken_up, nodes_taking, restarted, excluded, included}
 use Rattle.iq_replay.specs.Entries.{IsPossible, change}
 use Rattle.iq_replay.proofs.Lines.{LineFound, OfLine-found}
-use Rattle.iq_replay.proofs.Places.{slice_get-changed, slice_get-others}
+use Rattle.iq_replay.proofs.Places.{slice_get-others}
 use Rattle.iq_script_order.specs.Fixed.{IsUndisturbed}
 use Rattle.iq_script_order.proofs.Next.{IsIncluded}
-use Rattle.iq_script_order.proofs.Sound.{IsNumbered-change, AreSound, AreSound-changed, IncludedAt, IsSoundSession, IsSound, sound_changed, included_run, included_refused, sound_refused, sound_rolls, sound_begins, sound_takes, sound_nodes, included_at_kept, included_kept}
+use Rattle.iq_script_order.proofs.Sound.{IsNumbered-change, AreSound, AreSound-changed, IncludedAt, IsSoundSession, IsSound, sound_changed, included_run, sound_refused, sound_rolls, sound_begins, sound_takes, sound_nodes}
 
 -- SESSIONS OF AN ENTRY
 
@@ -113,8 +105,6 @@ node_of_step s n P Q h node is = at_o (slice_get s.nodes n) is h
     at_o : (o : Option Node) → o ≡ Some node → IsSomeAnd o (λ node. P node × Q node) → P node
     at_o o is h = (rw is at h).0
 
-
-
 -- EVERY ENTRY
 
 halted_stays : (s : State) (e : Entry) → IsUndisturbed e → s.halted ≡ None → (change s e).halted ≡ None
@@ -174,8 +164,8 @@ sessions_stay s (entries.Versions l) h u sound = sound.sessions
 
 pub IsSound-change : (s : State) (e : Entry) → IsPossible s e → IsUndisturbed e → IsSound s → IsSound (change s e)
 IsSound-change s e h undisturbed sound = record {
-        halted = halted_stays s e undisturbed sound.halted;
-        numbers = IsNumbered-change s e h sound.numbers;
-        nodes = nodes_stay s e h sound.nodes;
-        sessions = sessions_stay s e h undisturbed sound;
-    }
+  halted = halted_stays s e undisturbed sound.halted;
+  numbers = IsNumbered-change s e h sound.numbers;
+  nodes = nodes_stay s e h sound.nodes;
+  sessions = sessions_stay s e h undisturbed sound;
+}

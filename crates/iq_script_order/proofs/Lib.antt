@@ -10,3 +10,4 @@ pub mod Found
 pub mod Fixed
 pub mod Early
 pub mod Whole
+pub mod Starts

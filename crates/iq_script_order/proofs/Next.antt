@@ -1,7 +1,6 @@
 -- The entry with which a session's line goes on, where nothing disturbs it.
-use Rattle.std.specs.Prelude.{◌≡◌, ◌≢◌, ◌⊎◌, refl, ℕ, ◌+◌, ⊤, Bool, true, false, List, [], ◌∷◌, ◌++◌, Option, Some, None, nat_eq, if◌then◌else◌, IsSomeAnd}
+use Rattle.std.specs.Prelude.{◌≡◌, refl, ℕ, ◌+◌, ⊤, Bool, true, false, List, [], ◌∷◌, Option, Some, None, IsSomeAnd}
 use Rattle.std.specs.List.{slice_get}
-use Rattle.std.specs.Option.{option_or}
 use Rattle.std.proofs.Common.{◌∙◌, ap, sym, inl, inr}
 use Rattle.iq_base.specs.Shorts.{Name}
 use Rattle.iq_base.specs.declared.refusals.Refusal.{Refusal}
@@ -11,12 +10,12 @@ use Rattle.iq_ast.specs.declared.statements.Statement.TheVariants as statements
 use Rattle.iq_history.specs.declared.entries.Entry.{Entry}
 use Rattle.iq_history.specs.declared.entries.Entry.TheVariants as entries
 use Rattle.iq_statements.specs.Checks.{first_refusal}
-use Rattle.iq_statements.specs.Statements.{IsOnTables, IsWrite, Begins, locks}
+use Rattle.iq_statements.specs.Statements.{IsOnTables, Begins}
 use Rattle.iq_replay.specs.State.{State, Session, Stage, fresh, begun, locked, done, Standing, idle, lost, running, Run, Node, has_some, not_held}
 use Rattle.iq_replay.specs.Nodes.{node_position}
-use Rattle.iq_replay.specs.Refusals.{wanted, lost_refusal, excluded_refusal, at_node, line_checks, checks_below, checks_but}
+use Rattle.iq_replay.specs.Refusals.{wanted, lost_refusal, line_checks, checks_but}
 use Rattle.iq_replay.specs.Asked.{IsRunning, IsOpen, IsUnlocked, HoldsAll}
-use Rattle.iq_replay.specs.Causes.{IsFirst, IsMet, CanRefuse}
+use Rattle.iq_replay.specs.Causes.{IsMet, CanRefuse}
 use Rattle.iq_replay.specs.Lines.{CanBegin, CanLock, CanTake, IsEnding, CanEnd, CanCommit, CanEndWithout, CanRun}
 use Rattle.iq_script_order.specs.Fixed.{IsCertain}
 use Rattle.iq_script_order.proofs.Checks.{first_same}
@@ -83,7 +82,7 @@ next_at s place l c (running run) stage first statement = next_run s place l run
 abbrev pub next_of : State → ℕ → ℕ → Session → Statement → Entry
 next_of s place l session statement =
     next_at s place l (position_in s.latest (slice_get s.nodes session.node)) session.standing session.stage
-      (first_refusal (line_checks s place session statement)) statement
+    (first_refusal (line_checks s place session statement)) statement
 
 -- the same where the session's transaction and the first refusal are known
 next_known : (s : State) (place l : ℕ) (session : Session) (statement : Statement) (standing : Standing) (first : Option Refusal)

@@ -1,11 +1,10 @@
 -- States that are the same but for numbers of blocks that steps were answered.
-use Rattle.std.specs.Prelude.{◌≡◌, refl, ℕ, zero, suc, List, [], ◌∷◌, ◌++◌, Option, Some, None, map}
+use Rattle.std.specs.Prelude.{◌≡◌, refl, ℕ, zero, suc, List, [], ◌∷◌, ◌++◌, Some, None, map}
 use Rattle.std.proofs.Common.{◌∙◌, ap, sym}
 use Rattle.iq_history.specs.declared.entries.Entry.{Entry}
 use Rattle.iq_history.specs.declared.entries.Entry.TheVariants as entries
 use Rattle.iq_model.specs.declared.replies.Reply.{Reply}
 use Rattle.iq_model.specs.declared.replies.Said.{Said}
-use Rattle.iq_model.specs.declared.replies.Said.TheVariants as said
 use Rattle.iq_replay.specs.State.{State}
 use Rattle.iq_replay.specs.Changes.{replies_with}
 use Rattle.iq_replay.specs.Entries.{change}
@@ -72,5 +71,5 @@ change_same s t e h = rw h.rest (change_with s t.replies e h.replies)
 pub change_both : (s t : State) (e f : Entry) → Same s t → entry_uncounted e ≡ entry_uncounted f → Same (change s e) (change t f)
 change_both s t e f h same =
     Same-trans _ _ _ (change_uncounted s e)
-      (Same-trans _ _ _ (rw same (Same-refl _))
-        (Same-trans _ _ _ (Same-sym _ _ (change_uncounted s f)) (change_same s t f h)))
+    (Same-trans _ _ _ (rw same (Same-refl _))
+    (Same-trans _ _ _ (Same-sym _ _ (change_uncounted s f)) (change_same s t f h)))

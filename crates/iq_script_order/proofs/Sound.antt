@@ -1,29 +1,25 @@
 -- What holds of each state of an undisturbed history.
-use Rattle.std.specs.Prelude.{◌≡◌, ◌≢◌, ◌⊎◌, refl, ℕ, zero, suc, ◌+◌, ⊤, Bool, true, false, ◌||◌, List, [], ◌∷◌, Option, Some, None, map, nat_eq, if◌then◌else◌, IsSomeAnd}
+use Rattle.std.specs.Prelude.{◌≡◌, ◌≢◌, ◌⊎◌, refl, ℕ, zero, suc, ⊤, Bool, true, false, List, [], ◌∷◌, Option, Some, None, nat_eq, if◌then◌else◌}
 use Rattle.std.specs.List.{slice_get}
-use Rattle.std.specs.Option.{option_or, option_map}
-use Rattle.std.proofs.Common.{◌∙◌, arith, ap, sym, inl, inr}
-use Rattle.std.proofs.lemmas.Option.{slice_get-map}
-use Rattle.std.proofs.lemmas.Bool.{ne_eqb}
+use Rattle.std.specs.Option.{option_map}
+use Rattle.std.proofs.Common.{◌∙◌, ap, sym, inl, inr}
 use Rattle.std.proofs.lemmas.Bool.Decides.{eqb_tells}
 use Rattle.iq_base.specs.declared.refusals.Refusal.{Refusal}
-use Rattle.iq_base.specs.declared.refusals.Refusal.TheVariants as refusals
 use Rattle.iq_ast.specs.declared.statements.Statement.{Statement}
 use Rattle.iq_ast.specs.declared.statements.Statement.TheVariants as statements
 use Rattle.iq_history.specs.declared.entries.Entry.{Entry}
-use Rattle.iq_history.specs.declared.entries.Entry.TheVariants as entries
-use Rattle.iq_statements.specs.Checks.{first_refusal}
 use Rattle.iq_statements.specs.Statements.{IsOnTables}
 use Rattle.iq_statements.specs.Tables.{Database}
-use Rattle.iq_replay.specs.State.{State, Session, Stage, fresh, begun, locked, done, Standing, idle, lost, running, Run, Node, Report, changed_at, moved_to}
+use Rattle.iq_replay.specs.State.{State, Session, Stage, fresh, begun, locked, done, Standing, idle, lost, running, Run, Node, changed_at}
 use Rattle.iq_replay.specs.Nodes.{is_coordinator}
 use Rattle.iq_replay.specs.Causes.{tells_lost}
-use Rattle.iq_replay.specs.Changes.{statement_of, on_run, begins, took_own, took_for_all, took_effect, takes_effect, after_refusal, refused, rolls_back, loses_run, loses, nodes_at, taken_up, nodes_taking, restarted, excluded, included}
+use Rattle.iq_replay.specs.Changes.{statement_of, on_run, begins, took_own, took_for_all, took_effect, takes_effect, after_refusal, refused, rolls_back, included}
 use Rattle.iq_replay.specs.Entries.{IsPossible, change}
 use Rattle.iq_replay.proofs.Places.{slice_get-changed, slice_get-others}
 use Rattle.iq_script_order.proofs.Left.{has_number, left_of, Went-change, Went-steps, Went-back}
 use Rattle.iq_script_order.proofs.Next.{IsIncluded}
-use Rattle.iq_script_order.proofs.Steps.{names_in, AreDistinct}
+use Rattle.iq_script_order.proofs.Steps.{names_in}
+use Rattle.iq_script_order.specs.Fixed.{AreDistinct}
 
 -- NUMBERS
 
@@ -34,9 +30,9 @@ pub record IsNumbered (s : State) : Type 0 where
 
 pub IsNumbered-change : (s : State) (e : Entry) → IsPossible s e → IsNumbered s → IsNumbered (change s e)
 IsNumbered-change s e h numbered = record {
-        once = λ p q n k m. numbered.once p q n (Went-back _ n _ _ (Went-change s e p h) k) (Went-back _ n _ _ (Went-change s e q h) m);
-        apart = λ p n k m. numbered.apart p n (Went-back _ n _ _ (Went-change s e p h) k) (Went-back _ n _ _ (Went-steps s e h) m);
-    }
+  once = λ p q n k m. numbered.once p q n (Went-back _ n _ _ (Went-change s e p h) k) (Went-back _ n _ _ (Went-change s e q h) m);
+  apart = λ p n k m. numbered.apart p n (Went-back _ n _ _ (Went-change s e p h) k) (Went-back _ n _ _ (Went-steps s e h) m);
+}
 
 -- NODES
 
@@ -66,9 +62,9 @@ coordinators-changed (suc n) f (first ∷ nodes) here all (suc m) node is kind =
 pub AreSound-changed : (n : ℕ) (f : Node → Node) (nodes : List Node) → ((node : Node) → (f node).name ≡ node.name)
     → ((node : Node) → slice_get nodes n ≡ Some node → is_coordinator (f node).kind ≡ true → (f node).excluded ≡ false) → AreSound nodes → AreSound (changed_at n f nodes)
 AreSound-changed n f nodes same here h = record {
-        distinct = rw (names-changed n f nodes same) h.distinct;
-        coordinators = coordinators-changed n f nodes here h.coordinators;
-    }
+  distinct = rw (names-changed n f nodes same) h.distinct;
+  coordinators = coordinators-changed n f nodes here h.coordinators;
+}
 
 -- SESSIONS
 

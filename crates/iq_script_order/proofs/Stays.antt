@@ -1,23 +1,22 @@
 -- Lines that stay: where entries never fall below a number, a lower line that is left is never run.
-use Rattle.std.specs.Prelude.{◌≡◌, ◌≢◌, ◌≤◌, ◌<◌, ◌⊎◌, refl, ℕ, zero, suc, ◌+◌, Bool, true, false, ◌||◌, List, [], ◌∷◌, Option, Some, None, nat_eq, nat_le, nat_lt, if◌then◌else◌, IsSomeAnd}
+use Rattle.std.specs.Prelude.{◌≡◌, ◌≢◌, ◌≤◌, ◌<◌, ◌⊎◌, refl, ℕ, zero, suc, ◌+◌, Bool, true, false, ◌||◌, List, [], ◌∷◌, Option, Some, None, nat_eq, nat_le, if◌then◌else◌, IsSomeAnd}
 use Rattle.std.specs.List.{slice_get}
-use Rattle.std.proofs.Common.{◌∙◌, arith, ap, sym, inl, inr, subst}
-use Rattle.std.proofs.lemmas.Bool.{ne_eqb, leb-true, le-leb}
+use Rattle.std.proofs.Common.{arith, inl, inr}
+use Rattle.std.proofs.lemmas.Bool.{leb-true, le-leb}
 use Rattle.std.proofs.lemmas.Bool.Decides.{eqb_tells, leb_tells}
 use Rattle.iq_base.specs.Shorts.{Name}
 use Rattle.iq_base.specs.declared.refusals.Refusal.{Refusal}
 use Rattle.iq_ast.specs.declared.statements.Statement.{Statement}
 use Rattle.iq_history.specs.declared.entries.Entry.{Entry}
 use Rattle.iq_history.specs.declared.entries.Entry.TheVariants as entries
-use Rattle.iq_model.specs.declared.scripts.Deed.{Deed}
 use Rattle.iq_model.specs.declared.scripts.Line.{Line}
 use Rattle.iq_model.specs.declared.scripts.Step.{Step}
 use Rattle.iq_replay.specs.State.{State, Session, Standing, idle, lost, running, Node}
 use Rattle.iq_replay.specs.Asked.{FirstIs, StatementIs, OfLine, OfStep, OfTurn}
-use Rattle.iq_replay.specs.Lines.{CanRefuseStep, first_running, runs}
+use Rattle.iq_replay.specs.Lines.{CanRefuseStep, first_running}
 use Rattle.iq_replay.specs.Entries.{IsPossible, change}
-use Rattle.iq_replay.specs.Histories.{replay, IsLegal, IsInOrder, line_of, closes, low_after, AllEnded, IsStill, HasEnded}
-use Rattle.iq_script_order.proofs.Left.{has_number, left_in, left_of, First, FirstIs-first, Went, Went-change, Went-steps, Went-keeps}
+use Rattle.iq_replay.specs.Histories.{replay, IsLegal, IsInOrder, line_of, closes, low_after, AllEnded, IsStill}
+use Rattle.iq_script_order.proofs.Left.{has_number, left_in, left_of, First, FirstIs-first, Went-change, Went-steps, Went-keeps}
 
 -- ENTRIES THAT CLOSE
 
@@ -58,7 +57,7 @@ unfolding IsLegal replay
 IsLeft-replay s [] n low h ordered below some left = left
 IsLeft-replay s (e ∷ es) n low h ordered below some left =
     IsLeft-replay (change s e) es n (low_after low e) h.1 ordered.1 (below_after e low n ordered.0 below) some
-      (IsLeft-change s e n h.0 (other_line e low n ordered.0 below some) left)
+    (IsLeft-change s e n h.0 (other_line e low n ordered.0 below some) left)
 
 -- THE END
 
@@ -162,7 +161,7 @@ pub record Goes (low : ℕ) (s : State) (es : List Entry) : Type 0 where
 pub not_below : (s : State) (f : Entry) (fs : List Entry) (low n : ℕ) → Goes low s (f ∷ fs) → closes f ≡ false → 0 < n → n < line_of f → IsLeft n s → ⊥
 not_below s f fs low n h open_still some below left =
     none_left (replay s (f ∷ fs)) n h.sessions h.steps
-      (IsLeft-replay s (f ∷ fs) n (line_of f) h.legal (from_here (h.ordered.1)) below some left)
+    (IsLeft-replay s (f ∷ fs) n (line_of f) h.legal (from_here (h.ordered.1)) below some left)
   where
     from_here : IsInOrder (low_after low f) fs → IsInOrder (line_of f) (f ∷ fs)
     from_here k = (rw open_still (le-leb (line_of f) (line_of f) (omega arith)), rw open_still (rw open_still at k))

@@ -1,14 +1,12 @@
 -- The entry with which a step goes on, where nothing disturbs it, but for numbers of blocks.
 use Rattle.std.specs.Prelude.{◌≡◌, ◌≢◌, ◌<◌, ◌⊎◌, refl, ℕ, zero, suc, ◌+◌, ⊤, Bool, true, false, ◌&&◌, ◌||◌, List, [], ◌∷◌, Option, Some, None, nat_eq, find, map, if◌then◌else◌, IsSomeAnd}
-use Rattle.std.specs.List.{slice_get, list_any}
-use Rattle.std.specs.Option.{option_or}
+use Rattle.std.specs.List.{slice_get}
 use Rattle.std.specs.Cmp.Lexicographic.{pointwise}
 use Rattle.std.proofs.Common.{◌∙◌, arith, ap, sym, inl, inr}
 use Rattle.std.proofs.lemmas.Bool.{ne_eqb}
 use Rattle.std.proofs.lemmas.Bool.Decides.{eqb_tells}
 use Rattle.iq_base.specs.Shorts.{Name}
 use Rattle.iq_base.specs.declared.refusals.Refusal.{Refusal}
-use Rattle.iq_base.specs.declared.refusals.Refusal.TheVariants as refusals
 use Rattle.iq_history.specs.declared.entries.Entry.{Entry}
 use Rattle.iq_history.specs.declared.entries.Entry.TheVariants as entries
 use Rattle.iq_model.specs.declared.scripts.Step.{Step}
@@ -19,7 +17,7 @@ use Rattle.iq_replay.specs.Nodes.{is_coordinator, node_named, node_position, flo
 use Rattle.iq_replay.specs.Refusals.{step_refusal}
 use Rattle.iq_replay.specs.Asked.{IsSecondary}
 use Rattle.iq_replay.specs.Changes.{with_taken}
-use Rattle.iq_script_order.specs.Fixed.{no_census}
+use Rattle.iq_script_order.specs.Fixed.{no_census, is_among, AreDistinct}
 
 -- NAMES OF NODES
 
@@ -30,15 +28,6 @@ same_name-refl (b ∷ bs) = at_tell (eqb_tells b b) (same_name-refl bs)
     at_tell : ((nat_eq b b ≡ true) × (b ≡ b)) ⊎ ((nat_eq b b ≡ false) × (b ≢ b)) → pointwise nat_eq bs bs ≡ true → (nat_eq b b && pointwise nat_eq bs bs) ≡ true
     at_tell (inl k) more = rw (k.0, more) refl
     at_tell (inr k) more = absurd (k.1 refl)
-
--- whether a name is one of these
-abbrev pub is_among : Name → List Name → Bool
-is_among name [] = false
-is_among name (n ∷ ns) = same_name name n || is_among name ns
-
-abbrev pub AreDistinct : List Name → Type 0
-AreDistinct [] = ⊤
-AreDistinct (n ∷ ns) = (is_among n ns ≡ false) × AreDistinct ns
 
 abbrev pub names_in : List Node → List Name
 names_in nodes = map (λ (node : Node). node.name) nodes

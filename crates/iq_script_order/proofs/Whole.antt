@@ -1,35 +1,33 @@
 -- Two undisturbed whole histories in script order leave the same.
-use Rattle.std.specs.Prelude.{◌≡◌, ◌≢◌, ◌⊎◌, ◌<◌, ◌≤◌, refl, ℕ, zero, suc, ◌+◌, ⊤, Bool, true, false, ◌||◌, List, [], ◌∷◌, Option, Some, None, length, nat_eq, nat_le, if◌then◌else◌, IsSomeAnd}
-use Rattle.std.specs.List.{slice_get, AllByRecursion}
+use Rattle.std.specs.Prelude.{◌≡◌, ◌<◌, ◌≤◌, refl, ℕ, zero, suc, Bool, true, false, List, [], ◌∷◌, Option, Some, None, length}
+use Rattle.std.specs.List.{slice_get}
 use Rattle.std.specs.Option.{option_map}
-use Rattle.std.proofs.Common.{◌∙◌, arith, ap, sym, inl, inr}
+use Rattle.std.proofs.Common.{◌∙◌, arith, ap, sym}
 use Rattle.std.proofs.lemmas.Bool.{leb-true}
 use Rattle.iq_base.specs.Shorts.{Name}
 use Rattle.iq_base.specs.declared.refusals.Refusal.{Refusal}
 use Rattle.iq_history.specs.declared.entries.Entry.{Entry}
 use Rattle.iq_history.specs.declared.entries.Entry.TheVariants as entries
 use Rattle.iq_statements.specs.Checks.{first_refusal}
-use Rattle.iq_replay.specs.State.{State, Session, Stage, fresh, begun, locked, done, changed_at}
+use Rattle.iq_replay.specs.State.{State, Session, Stage, fresh, begun, locked, done}
 use Rattle.iq_replay.specs.Refusals.{line_checks}
 use Rattle.iq_replay.specs.Asked.{IsUnlocked}
 use Rattle.iq_replay.specs.Lines.{CanLock, first_running}
 use Rattle.iq_replay.specs.Causes.{faults_after}
-use Rattle.iq_replay.specs.Changes.{locks_more, refused}
-use Rattle.iq_replay.specs.Entries.{IsPossible, change}
-use Rattle.iq_replay.specs.Histories.{replay, IsLegal, IsInOrder, line_of, closes, low_after, AllEnded}
+use Rattle.iq_replay.specs.Changes.{locks_more}
+use Rattle.iq_replay.specs.Entries.{change}
+use Rattle.iq_replay.specs.Histories.{replay, line_of, closes, low_after, AllEnded}
 use Rattle.iq_replay.proofs.Lines.{LineFound}
 use Rattle.iq_replay.proofs.Places.{slice_get-changed}
-use Rattle.iq_script_order.specs.Fixed.{IsUndisturbed}
-use Rattle.iq_script_order.proofs.Left.{has_number, left_in, left_of}
-use Rattle.iq_script_order.proofs.Stays.{closes-zero, IsLeft, in_session, in_steps, Goes, line_left, none_left, not_below, still-none}
-use Rattle.iq_script_order.proofs.Next.{next_of, next_found}
+use Rattle.iq_script_order.proofs.Left.{has_number, left_in}
+use Rattle.iq_script_order.proofs.Stays.{IsLeft, in_session, in_steps, none_left, still-none}
+use Rattle.iq_script_order.proofs.Next.{next_found}
 use Rattle.iq_script_order.proofs.Steps.{entry_uncounted}
 use Rattle.iq_script_order.proofs.Sound.{IsSound}
-use Rattle.iq_script_order.proofs.Goes.{IsSound-change}
-use Rattle.iq_script_order.proofs.Same.{Same, Same-refl, Same-sym, Same-trans, change_both}
-use Rattle.iq_script_order.proofs.Found.{SessionNext, StepNext, IsNext, of_session, of_steps, EarlyLock, Goes_on, next, early, goes_on}
+use Rattle.iq_script_order.proofs.Same.{Same, Same-sym, change_both}
+use Rattle.iq_script_order.proofs.Found.{IsNext, of_session, of_steps, EarlyLock, Goes_on, next, early, goes_on}
 use Rattle.iq_script_order.proofs.Early.{after_lock, first_of_lock, changed_twice}
-use Rattle.iq_script_order.proofs.Fixed.{has_first, one_next, next_same, left_same, Closing, closing_is, Runs, goes_behind, possible_first, runs_behind, first_some, first_left, not_closed, passes}
+use Rattle.iq_script_order.proofs.Fixed.{has_first, one_next, next_same, left_same, Closing, closing_is, Runs, possible_first, runs_behind, first_some, first_left, not_closed, passes}
 
 -- LOCKS BEFORE REFUSALS
 
@@ -50,16 +48,16 @@ refusal_next : (s : State) (l : ℕ) (place : ℕ) (names : List Name) (cause : 
     → IsNext (after_lock s place names) l (entries.Refused (Some place) l cause)
 refusal_next s l place names cause found first =
     of_session (record {
-        place = place;
-        session = locks_more names found.session;
-        line = found.line;
-        lines = found.lines;
-        statement = found.statement;
-        found = slice_get-changed place (locks_more names) s.sessions ∙ ap (option_map (locks_more names)) found.found;
-        left = found.left;
-        number = found.number;
-        deed = found.deed;
-        next = next_found (after_lock s place names) place l (locks_more names found.session) found.statement cause tt (first_of_lock s place names found.session found.statement found.holds ∙ first);
+      place = place;
+      session = locks_more names found.session;
+      line = found.line;
+      lines = found.lines;
+      statement = found.statement;
+      found = slice_get-changed place (locks_more names) s.sessions ∙ ap (option_map (locks_more names)) found.found;
+      left = found.left;
+      number = found.number;
+      deed = found.deed;
+      next = next_found (after_lock s place names) place l (locks_more names found.session) found.statement cause tt (first_of_lock s place names found.session found.statement found.holds ∙ first);
     })
 
 next_has : (s : State) (l : ℕ) (e : Entry) → IsNext s l e → IsLeft l s
@@ -74,17 +72,17 @@ after_is s place l names = refl
 not_again : (s : State) (l : ℕ) (place : ℕ) (names : List Name) (cause : Refusal) (g : Entry) → IsSound (after_lock s place names) → IsNext (after_lock s place names) l (entries.Refused (Some place) l cause)
     → EarlyLock (after_lock s place names) l g → slice_get (after_lock s place names).sessions place ≡ option_map (locks_more names) (slice_get s.sessions place) → ⊥
 not_again s l place names cause g sound is again changed = at_place (same_place (one_next (after_lock s place names) l _ _ sound.numbers is (of_session (record {
-        place = again.place;
-        session = again.line.session;
-        line = again.line.line;
-        lines = again.line.lines;
-        statement = again.line.statement;
-        found = again.line.found;
-        left = again.line.left;
-        number = again.line.number;
-        deed = again.line.deed;
-        next = again.next;
-    }))))
+  place = again.place;
+  session = again.line.session;
+  line = again.line.line;
+  lines = again.line.lines;
+  statement = again.line.statement;
+  found = again.line.found;
+  left = again.line.left;
+  number = again.line.number;
+  deed = again.line.deed;
+  next = again.next;
+}))))
   where
     same_place : entries.Refused (Some place) l cause ≡ entries.Refused (Some again.place) l again.cause → place ≡ again.place
     same_place p = cc p
@@ -148,11 +146,11 @@ refusing low s place l names cause (g ∷ es) some low_is is changed runs = at_c
 
     at_refused : g ≡ entries.Refused (Some place) l cause → Refusing s place l names cause (g ∷ es)
     at_refused q = record {
-        behind = es;
-        low = low_after low g;
-        runs = rw (behind_is q) at (runs_behind low s1 g es runs);
-        less = omega arith;
-        same = ap (λ (t : State). replay t es) (behind_is q);
+      behind = es;
+      low = low_after low g;
+      runs = rw (behind_is q) at (runs_behind low s1 g es runs);
+      less = omega arith;
+      same = ap (λ (t : State). replay t es) (behind_is q);
     }
 
     at_goes : line_of g ≡ l → Goes_on s1 (line_of g) g → Refusing s place l names cause (g ∷ es)
@@ -182,27 +180,27 @@ forward_early low s e es open_still some a runs = from_refusing (refusing (low_a
 
     first_is : IsNext s (line_of e) (entries.Refused (Some a.place) (line_of e) a.cause)
     first_is = of_session (record {
-        place = a.place;
-        session = a.line.session;
-        line = a.line.line;
-        lines = a.line.lines;
-        statement = a.line.statement;
-        found = a.line.found;
-        left = a.line.left;
-        number = a.line.number;
-        deed = a.line.deed;
-        next = a.next;
+      place = a.place;
+      session = a.line.session;
+      line = a.line.line;
+      lines = a.line.lines;
+      statement = a.line.statement;
+      found = a.line.found;
+      left = a.line.left;
+      number = a.line.number;
+      deed = a.line.deed;
+      next = a.next;
     })
 
     from_refusing : Refusing s a.place (line_of e) a.names a.cause es → Forward s (line_of e) e es
     from_refusing r = record {
-        first = entries.Refused (Some a.place) (line_of e) a.cause;
-        behind = r.behind;
-        low = r.low;
-        is = first_is;
-        runs = r.runs;
-        less = r.less;
-        same = ap (λ (t : State). replay t es) is_after ∙ r.same;
+      first = entries.Refused (Some a.place) (line_of e) a.cause;
+      behind = r.behind;
+      low = r.low;
+      is = first_is;
+      runs = r.runs;
+      less = r.less;
+      same = ap (λ (t : State). replay t es) is_after ∙ r.same;
     }
 
 pub forward : (low : ℕ) (s : State) (e : Entry) (es : List Entry) → Runs low s (e ∷ es) → closes e ≡ false → Forward s (line_of e) e es
@@ -241,9 +239,11 @@ both_close s t e f same a b = ap entry_uncounted (at_place (cc (a.first, b.first
 -- both histories go on with the same line
 both_lines : (low low' : ℕ) (s t : State) (e f : Entry) (es fs : List Entry) → Same s t → Runs low s (e ∷ es) → Runs low' t (f ∷ fs) → closes e ≡ false → closes f ≡ false → line_of e ≡ line_of f
 both_lines low low' s t e f es fs same a b open_e open_f =
-    omega (arith,
+    omega (
+      arith,
       passes low (line_of f) s e es a open_e (first_some low' t f fs b open_f) (left_same t s (line_of f) (Same-sym s t same) (first_left low' t f fs b open_f)),
-      passes low' (line_of e) t f fs b open_f (first_some low s e es a open_e) (left_same s t (line_of e) same (first_left low s e es a open_e)))
+      passes low' (line_of e) t f fs b open_f (first_some low s e es a open_e) (left_same s t (line_of e) same (first_left low s e es a open_e)),
+    )
 
 pub fixed : (n : ℕ) (low low' : ℕ) (s t : State) (es fs : List Entry) → length es ≤ n → Same s t → Runs low s es → Runs low' t fs → Same (replay s es) (replay t fs)
 unfolding replay
@@ -262,16 +262,16 @@ fixed (suc n) low low' s t (e ∷ es) (f ∷ fs) few same a b = at_close (fixed 
     at_forward : Law → closes e ≡ false → closes f ≡ false → Forward s (line_of e) e es → Forward t (line_of f) f fs → Same (replay (change s e) es) (replay (change t f) fs)
     at_forward law open_e open_f p q =
         rw (p.same, q.same)
-          (law p.low q.low (change s p.first) (change t q.first) p.behind q.behind (omega (arith, p.less, few_behind))
-            (change_both s t p.first q.first same
-              (one_next t (line_of f) _ _ b.sound.numbers (next_same s t (line_of f) _ same (line_as s (line_of e) (line_of f) _ (both_lines low low' s t e f es fs same a b open_e open_f) p.is)) q.is))
-            p.runs q.runs)
+        (law p.low q.low (change s p.first) (change t q.first) p.behind q.behind (omega (arith, p.less, few_behind))
+        (change_both s t p.first q.first same
+        (one_next t (line_of f) _ _ b.sound.numbers (next_same s t (line_of f) _ same (line_as s (line_of e) (line_of f) _ (both_lines low low' s t e f es fs same a b open_e open_f) p.is)) q.is))
+        p.runs q.runs)
 
     at_close : Law → (x : Bool) → closes e ≡ x → (y : Bool) → closes f ≡ y → Same (replay (change s e) es) (replay (change t f) fs)
     at_close law true x true y =
         law (low_after low e) (low_after low' f) (change s e) (change t f) es fs few_behind
-          (change_both s t e f same (both_close s t e f same (closing_is s e (possible_first low s e es a.goes) x) (closing_is t f (possible_first low' t f fs b.goes) y)))
-          (runs_behind low s e es a) (runs_behind low' t f fs b)
+        (change_both s t e f same (both_close s t e f same (closing_is s e (possible_first low s e es a.goes) x) (closing_is t f (possible_first low' t f fs b.goes) y)))
+        (runs_behind low s e es a) (runs_behind low' t f fs b)
     at_close law true x false y = absurd (not_closed low (line_of f) s e es a x (first_some low' t f fs b y) (left_same t s (line_of f) (Same-sym s t same) (first_left low' t f fs b y)))
     at_close law false x true y = absurd (not_closed low' (line_of e) t f fs b y (first_some low s e es a x) (left_same s t (line_of e) same (first_left low s e es a x)))
     at_close law false x false y = at_forward law x y (forward low s e es a x) (forward low' t f fs b y)

@@ -1,6 +1,9 @@
 -- What a run in script order leaves open: numbers of blocks, and lines that want of space or memory, a fault or a halt refuses.
-use Rattle.std.specs.Prelude.{◌≡◌, ◌<◌, ℕ, ⊤, Bool, true, false, List, [], ◌∷◌, Option, Some, None, map}
+use Rattle.std.specs.Prelude.{◌≡◌, ◌<◌, ℕ, ⊤, Bool, false, ◌||◌, List, [], ◌∷◌, Option, map}
+use Rattle.std.specs.List.{AllByRecursion}
 use Rattle.std.specs.Option.{option_map}
+use Rattle.iq_base.specs.Shorts.{Name}
+use Rattle.iq_base.specs.declared.nodes.NodeSpec.{NodeSpec}
 use Rattle.iq_base.specs.declared.refusals.Census.{Census}
 use Rattle.iq_base.specs.declared.refusals.Refusal.{Refusal}
 use Rattle.iq_base.specs.declared.refusals.Refusal.TheVariants as refusals
@@ -12,7 +15,10 @@ use Rattle.iq_model.specs.declared.replies.Reply.{Reply}
 use Rattle.iq_model.specs.declared.replies.Said.{Said}
 use Rattle.iq_model.specs.declared.replies.Said.TheVariants as said
 use Rattle.iq_model.specs.declared.scripts.Line.{Line}
+use Rattle.iq_model.specs.declared.scripts.Script.{Script}
+use Rattle.iq_conditions.specs.Servers.{same_name}
 use Rattle.iq_replay.specs.State.{State}
+use Rattle.iq_replay.specs.Histories.{IsWhole, IsInOrder}
 
 -- DISTURBANCES
 
@@ -126,6 +132,26 @@ replies_uncounted replies = map (option_map reply_uncounted) replies
 abbrev pub Ascend : ℕ → List Line → Type 0
 Ascend low [] = ⊤
 Ascend low (line ∷ lines) = (low < line.number) × Ascend line.number lines
+
+-- whether a name is one of these
+abbrev pub is_among : Name → List Name → Bool
+is_among name [] = false
+is_among name (n ∷ ns) = same_name name n || is_among name ns
+
+abbrev pub AreDistinct : List Name → Type 0
+AreDistinct [] = ⊤
+AreDistinct (n ∷ ns) = (is_among n ns ≡ false) × AreDistinct ns
+
+-- a script whose lines are numbered upwards, and whose nodes have different names
+pub record IsNumberedScript (script : Script) : Type 0 where
+  pub numbers : Ascend 0 script.lines
+  pub names : AreDistinct (map (λ (node : NodeSpec). node.name) script.nodes)
+
+-- a whole history whose lines never fall, and that nothing disturbed
+pub record IsUndisturbedRun (s : State) (es : List Entry) : Type 0 where
+  pub whole : IsWhole s es
+  pub ordered : IsInOrder 1 es
+  pub undisturbed : AllByRecursion IsUndisturbed es
 
 -- the same commits with the same tables
 pub record HasSameTables (s t : State) : Type 0 where
