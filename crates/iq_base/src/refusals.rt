@@ -39,9 +39,13 @@ pub enum FieldCause {
 /// in the order of declaration.
 #[derive(Clone, Debug, Drop)]
 pub enum Refusal {
-    /// A restart of the session's node ended its transaction; the node's incarnation now.
+    /// A restart or an exclusion of the session's node ended its transaction; the node's incarnation now.
     Lost {
         incarnation: u32,
+    },
+    /// The session's node, or a step's, is excluded.
+    Excluded {
+        node: Name,
     },
     /// BEGIN or SYNC inside a transaction.
     InTransaction,
@@ -152,6 +156,10 @@ pub enum Refusal {
     IsCoordinator {
         name: Name,
     },
+    /// The node isn't excluded.
+    NotExcluded {
+        node: Name,
+    },
     /// No report of that number is in the bag.
     NoReport {
         number: u32,
@@ -173,6 +181,7 @@ impl Refusal {
             Refusal::Lost { incarnation } => Refusal::Lost {
                 incarnation: *incarnation,
             },
+            Refusal::Excluded { node } => Refusal::Excluded { node: node.again() },
             Refusal::InTransaction => Refusal::InTransaction,
             Refusal::NoTransaction => Refusal::NoTransaction,
             Refusal::NoSavepoint { name } => Refusal::NoSavepoint { name: name.again() },
@@ -230,6 +239,7 @@ impl Refusal {
             },
             Refusal::NoNode { name } => Refusal::NoNode { name: name.again() },
             Refusal::IsCoordinator { name } => Refusal::IsCoordinator { name: name.again() },
+            Refusal::NotExcluded { node } => Refusal::NotExcluded { node: node.again() },
             Refusal::NoReport { number } => Refusal::NoReport { number: *number },
             Refusal::AtEnd { commit } => Refusal::AtEnd { commit: *commit },
             Refusal::NoMemory => Refusal::NoMemory,

@@ -3,7 +3,7 @@ use Rattle.std.specs.Prelude.{ℕ, ◌<◌, Option, Some, None}
 use Rattle.iq_base.specs.declared.refusals.Refusal.{Refusal}
 use Rattle.iq_base.specs.declared.refusals.Refusal.TheVariants.{Locked}
 use Rattle.iq_history.specs.declared.entries.Entry.{Entry}
-use Rattle.iq_history.specs.declared.entries.Entry.TheVariants.{Begin, Lock, Done, Refused, Commit, End, Rollback, Halt, Savepoint, Back, Release, Sync, Apply, Send, Lose, Take, Own, Restart, Space, Versions}
+use Rattle.iq_history.specs.declared.entries.Entry.TheVariants.{Begin, Lock, Done, Refused, Commit, End, Rollback, Halt, Savepoint, Back, Release, Sync, Apply, Send, Lose, Take, Own, Restart, Exclude, Include, Space, Versions}
 
 -- the session that holds a lock is declared; no other refusal names a place
 abbrev pub IsPlacedRefusal : ℕ → Refusal → Type 0
@@ -35,5 +35,7 @@ IsPlaced nodes sessions (Lose l number) = Unit {0}
 IsPlaced nodes sessions (Take l number horizon freed) = Unit {0}
 IsPlaced nodes sessions (Own n l horizon freed) = n < nodes
 IsPlaced nodes sessions (Restart n l incarnation) = n < nodes
+IsPlaced nodes sessions (Exclude n l incarnation) = n < nodes
+IsPlaced nodes sessions (Include n l c) = n < nodes
 IsPlaced nodes sessions (Space l census) = Unit {0}
 IsPlaced nodes sessions (Versions l) = Unit {0}

@@ -108,6 +108,18 @@ pub enum Entry {
         l: u32,
         incarnation: u32,
     },
+    /// The node is excluded, and its transactions end.
+    Exclude {
+        n: u32,
+        l: u32,
+        incarnation: u32,
+    },
+    /// The node is included again, at commit `c`.
+    Include {
+        n: u32,
+        l: u32,
+        c: u64,
+    },
     Space {
         l: u32,
         census: Census,

@@ -123,6 +123,8 @@ IsPossible s (entries.Lose l number) = ⊥
 IsPossible s (entries.Take l number horizon freed) = ⊥
 IsPossible s (entries.Own n l horizon freed) = ⊥
 IsPossible s (entries.Restart n l incarnation) = ⊥
+IsPossible s (entries.Exclude n l incarnation) = ⊥
+IsPossible s (entries.Include n l c) = ⊥
 IsPossible s (entries.Space l census) = ⊥
 IsPossible s (entries.Versions l) = ⊥
 
@@ -209,6 +211,8 @@ change s (entries.Lose l number) = s
 change s (entries.Take l number horizon freed) = s
 change s (entries.Own n l horizon freed) = s
 change s (entries.Restart n l incarnation) = s
+change s (entries.Exclude n l incarnation) = s
+change s (entries.Include n l c) = s
 change s (entries.Space l census) = s
 change s (entries.Versions l) = s
 
@@ -294,6 +298,8 @@ entry_replies s (entries.Lose l number) = []
 entry_replies s (entries.Take l number horizon freed) = []
 entry_replies s (entries.Own n l horizon freed) = []
 entry_replies s (entries.Restart n l incarnation) = []
+entry_replies s (entries.Exclude n l incarnation) = []
+entry_replies s (entries.Include n l c) = []
 entry_replies s (entries.Space l census) = []
 entry_replies s (entries.Versions l) = []
 

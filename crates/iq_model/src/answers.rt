@@ -62,4 +62,5 @@ pub struct NodeVersion {
     pub floor: u64,
     pub taken: u64,
     pub incarnation: u32,
+    pub excluded: bool,
 }

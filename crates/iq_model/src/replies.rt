@@ -31,6 +31,8 @@ pub enum Said {
     Lost { number: u32 },
     Taken(Freed),
     Restarted { incarnation: u32 },
+    Excluded { incarnation: u32 },
+    Included { commit: u64 },
     Space(Census),
     Versions(Versions),
     Refused(Refusal),

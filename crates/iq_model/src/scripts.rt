@@ -10,6 +10,8 @@ pub enum Step {
     Lose(u32),
     Take(u32),
     Restart(Name),
+    Exclude(Name),
+    Include(Name),
     Space,
     Versions,
 }

@@ -30,5 +30,7 @@ HadMemory (entries.Lose l number) = Unit {0}
 HadMemory (entries.Take l number horizon freed) = Unit {0}
 HadMemory (entries.Own n l horizon freed) = Unit {0}
 HadMemory (entries.Restart n l incarnation) = Unit {0}
+HadMemory (entries.Exclude n l incarnation) = Unit {0}
+HadMemory (entries.Include n l c) = Unit {0}
 HadMemory (entries.Space l census) = Unit {0}
 HadMemory (entries.Versions l) = Unit {0}

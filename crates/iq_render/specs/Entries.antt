@@ -2,7 +2,7 @@
 use Rattle.std.specs.Prelude.{ℕ, List, [], ◌∷◌, ◌++◌, ◌+◌, Option, Some, None, codes, flat_map}
 use Rattle.std.specs.Fmt.{decimal}
 use Rattle.iq_history.specs.declared.entries.Entry.{Entry}
-use Rattle.iq_history.specs.declared.entries.Entry.TheVariants.{Begin, Lock, Done, Refused, Commit, End, Rollback, Halt, Savepoint, Back, Release, Sync, Apply, Send, Lose, Take, Own, Restart, Space, Versions}
+use Rattle.iq_history.specs.declared.entries.Entry.TheVariants.{Begin, Lock, Done, Refused, Commit, End, Rollback, Halt, Savepoint, Back, Release, Sync, Apply, Send, Lose, Take, Own, Restart, Exclude, Include, Space, Versions}
 use Rattle.iq_render.specs.Values.{line, name_at, then_name, then_number}
 use Rattle.iq_render.specs.Refusals.{refusal_text, census_numbers}
 
@@ -39,6 +39,8 @@ entry_text nodes sessions (Lose l number) = step_text (codes "lose") l ++ then_n
 entry_text nodes sessions (Take l number horizon freed) = step_text (codes "take") l ++ then_number number ++ then_number horizon ++ then_number freed
 entry_text nodes sessions (Own n l horizon freed) = placed_text (codes "own") nodes n l ++ then_number horizon ++ then_number freed
 entry_text nodes sessions (Restart n l incarnation) = placed_text (codes "restart") nodes n l ++ then_number incarnation
+entry_text nodes sessions (Exclude n l incarnation) = placed_text (codes "exclude") nodes n l ++ then_number incarnation
+entry_text nodes sessions (Include n l c) = placed_text (codes "include") nodes n l ++ then_number c
 entry_text nodes sessions (Space l census) = step_text (codes "space") l ++ census_numbers census
 entry_text nodes sessions (Versions l) = step_text (codes "versions") l
 

@@ -4,7 +4,7 @@ use Rattle.iq_base.specs.declared.refusals.Census.{Census}
 use Rattle.iq_base.specs.declared.refusals.FieldCause.{FieldCause}
 use Rattle.iq_base.specs.declared.refusals.FieldCause.TheVariants.{Count, NotNumber, NotText, Range, NotUtf8, NullRefused as NullField, TextTooLong as LongField}
 use Rattle.iq_base.specs.declared.refusals.Refusal.{Refusal}
-use Rattle.iq_base.specs.declared.refusals.Refusal.TheVariants.{Lost, InTransaction, NoTransaction, NoSavepoint, TooManySavepoints, DdlInTransaction, ReadOnly, NoTable, TableExists, NoColumn, NoIndex, IndexExists, CatalogFull, TypeMismatch, NotGrouped, NullRefused, TextTooLong, BadRow, Halted, Locked, Later, TableFull, IndexUnfit, TooManyDistinct, NoSpace, StoreFault, BadPage, NoNode, IsCoordinator, NoReport, AtEnd, NoMemory}
+use Rattle.iq_base.specs.declared.refusals.Refusal.TheVariants.{Lost, Excluded, InTransaction, NoTransaction, NoSavepoint, TooManySavepoints, DdlInTransaction, ReadOnly, NoTable, TableExists, NoColumn, NoIndex, IndexExists, CatalogFull, TypeMismatch, NotGrouped, NullRefused, TextTooLong, BadRow, Halted, Locked, Later, TableFull, IndexUnfit, TooManyDistinct, NoSpace, StoreFault, BadPage, NoNode, IsCoordinator, NotExcluded, NoReport, AtEnd, NoMemory}
 use Rattle.iq_render.specs.Values.{name_at, then_name, then_number}
 
 -- what is wrong with a value, by its name
@@ -24,6 +24,7 @@ census_numbers census = then_number census.free ++ then_number census.reserved +
 -- the name and the fields of a refusal, at the declared names of sessions
 abbrev pub refusal_text : List (List ℕ) → Refusal → List ℕ
 refusal_text sessions (Lost incarnation) = codes "Lost" ++ then_number incarnation
+refusal_text sessions (Excluded node) = codes "Excluded" ++ then_name node
 refusal_text sessions InTransaction = codes "InTransaction"
 refusal_text sessions NoTransaction = codes "NoTransaction"
 refusal_text sessions (NoSavepoint name) = codes "NoSavepoint" ++ then_name name
@@ -52,6 +53,7 @@ refusal_text sessions (StoreFault before after) = codes "StoreFault" ++ then_num
 refusal_text sessions (BadPage object page) = codes "BadPage" ++ then_number object ++ then_number page
 refusal_text sessions (NoNode name) = codes "NoNode" ++ then_name name
 refusal_text sessions (IsCoordinator name) = codes "IsCoordinator" ++ then_name name
+refusal_text sessions (NotExcluded node) = codes "NotExcluded" ++ then_name node
 refusal_text sessions (NoReport number) = codes "NoReport" ++ then_number number
 refusal_text sessions (AtEnd commit) = codes "AtEnd" ++ then_number commit
 refusal_text sessions NoMemory = codes "NoMemory"

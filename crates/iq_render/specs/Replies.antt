@@ -1,5 +1,5 @@
 -- How a reply is printed: the line, what is said of it, and its rows.
-use Rattle.std.specs.Prelude.{ℕ, List, [], ◌∷◌, ◌++◌, Option, Some, None, codes, length, flat_map}
+use Rattle.std.specs.Prelude.{ℕ, Bool, true, false, List, [], ◌∷◌, ◌++◌, Option, Some, None, codes, length, flat_map}
 use Rattle.std.specs.Fmt.{decimal}
 use Rattle.iq_model.specs.declared.answers.Answer.{Answer}
 use Rattle.iq_model.specs.declared.answers.Answer.TheVariants.{Rows, Plan}
@@ -9,7 +9,7 @@ use Rattle.iq_model.specs.declared.answers.Sent.TheVariants.{Bagged, Own}
 use Rattle.iq_base.specs.declared.refusals.Census.{Census}
 use Rattle.iq_model.specs.declared.replies.Reply.{Reply}
 use Rattle.iq_model.specs.declared.replies.Said.{Said}
-use Rattle.iq_model.specs.declared.replies.Said.TheVariants.{Created, Dropped, Inserted, Deleted, Updated, Begun, Committed, Ended, RolledBack, Saved, BackTo, Released, Synced, Applied, Lost, Taken, Restarted, Space, Refused, Answer as Answers, Sent as Sends, Versions as Tells}
+use Rattle.iq_model.specs.declared.replies.Said.TheVariants.{Created, Dropped, Inserted, Deleted, Updated, Begun, Committed, Ended, RolledBack, Saved, BackTo, Released, Synced, Applied, Lost, Taken, Restarted, Excluded, Included, Space, Refused, Answer as Answers, Sent as Sends, Versions as Tells}
 use Rattle.iq_render.specs.Values.{line, name_at, then_name, then_number, row_line}
 use Rattle.iq_render.specs.Refusals.{refusal_text}
 
@@ -61,6 +61,8 @@ said_text sessions (Sends sent) = sent_text sent
 said_text sessions (Lost number) = codes "lost" ++ then_number number
 said_text sessions (Taken freed) = freed_text freed.horizon freed.freed
 said_text sessions (Restarted incarnation) = codes "restarted" ++ then_number incarnation
+said_text sessions (Excluded incarnation) = codes "excluded" ++ then_number incarnation
+said_text sessions (Included commit) = codes "included" ++ then_number commit
 said_text sessions (Space census) = codes "space" ++ census_words census
 said_text sessions (Tells versions) = latest_text versions.latest versions.horizon
 said_text sessions (Refused cause) = codes "refused" ++ then_name (refusal_text sessions cause)
@@ -73,9 +75,15 @@ plan_line text = line (codes "  " ++ text)
 abbrev pub version_numbers : NodeVersion → List ℕ
 version_numbers version = codes " position" ++ then_number version.position ++ codes " floor" ++ then_number version.floor ++ codes " taken" ++ then_number version.taken ++ codes " incarnation" ++ then_number version.incarnation
 
+-- a word behind the numbers of a node that is excluded
+abbrev pub excluded_text : Bool → List ℕ
+excluded_text true = codes " excluded"
+excluded_text false = []
+
 -- what is told of one node, after two spaces
 abbrev pub version_line : List (List ℕ) → NodeVersion → List ℕ
-version_line nodes version = line (codes " " ++ then_name (name_at nodes version.node) ++ version_numbers version)
+version_line nodes version =
+    line (codes " " ++ then_name (name_at nodes version.node) ++ version_numbers version ++ excluded_text version.excluded)
 
 -- the rows of an answer
 abbrev pub answer_lines : Answer → List ℕ

@@ -115,6 +115,15 @@ pub(crate) fn push_entry(
             *l,
             *incarnation as u64,
         ),
+        Entry::Exclude { n, l, incarnation } => push_placed_count(
+            out,
+            "exclude",
+            nodes,
+            *n,
+            *l,
+            *incarnation as u64,
+        ),
+        Entry::Include { n, l, c } => push_placed_count(out, "include", nodes, *n, *l, *c),
         Entry::Space { l, census } => {
             push_step(out, "space", *l)?;
             push_census_numbers(out, census)

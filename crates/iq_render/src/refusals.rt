@@ -59,6 +59,7 @@ pub(crate) fn push_refusal(
 {
     match refusal {
         Refusal::Lost { incarnation } => push_count(out, "Lost", *incarnation as u64),
+        Refusal::Excluded { node } => push_named(out, "Excluded", node),
         Refusal::InTransaction => out.push_str("InTransaction"),
         Refusal::NoTransaction => out.push_str("NoTransaction"),
         Refusal::NoSavepoint { name } => push_named(out, "NoSavepoint", name),
@@ -106,6 +107,7 @@ pub(crate) fn push_refusal(
         }
         Refusal::NoNode { name } => push_named(out, "NoNode", name),
         Refusal::IsCoordinator { name } => push_named(out, "IsCoordinator", name),
+        Refusal::NotExcluded { node } => push_named(out, "NotExcluded", node),
         Refusal::NoReport { number } => push_count(out, "NoReport", *number as u64),
         Refusal::AtEnd { commit } => push_count(out, "AtEnd", *commit),
         Refusal::NoMemory => out.push_str("NoMemory"),

@@ -4,7 +4,7 @@ ghost use Rattle.std.specs.String.{string_bytes};
 ghost use Rattle.iq_render.specs.Values.{then_number, row_line};
 ghost use Rattle.iq_render.specs.Placed.{ArePlacedVersions, IsPlacedSaid, IsPlacedRefused, IsPlacedTold};
 ghost use Rattle.iq_render.specs.Replies.{commit_text, freed_text, latest_text, census_words, answer_text, sent_text, said_text};
-ghost use Rattle.iq_render.specs.Replies.{plan_line, version_numbers, version_line, answer_lines, said_lines, reply_text};
+ghost use Rattle.iq_render.specs.Replies.{plan_line, version_numbers, excluded_text, version_line, answer_lines, said_lines, reply_text};
 
 use crate::refusals::push_refusal;
 use crate::values::{push_count, push_named, push_place, push_row};
@@ -54,6 +54,8 @@ fn push_said(out: &mut String, sessions: &[Name], said: &Said) -> Result<(), All
         Said::Lost { number } => push_count(out, "lost", *number as u64),
         Said::Taken(Freed { horizon, freed }) => push_freed(out, *horizon, *freed),
         Said::Restarted { incarnation } => push_count(out, "restarted", *incarnation as u64),
+        Said::Excluded { incarnation } => push_count(out, "excluded", *incarnation as u64),
+        Said::Included { commit } => push_count(out, "included", *commit),
         Said::Space(census) => {
             out.push_str("space")?;
             push_census_words(out, census)
@@ -199,6 +201,7 @@ fn push_version(out: &mut String, nodes: &[Name], version: &NodeVersion) -> Resu
     out.push_str(" ")?;
     push_place(out, nodes, version.node)?;
     push_version_numbers(out, version)?;
+    push_excluded(out, version.excluded)?;
     out.push_str("\n")
 }
 
@@ -210,4 +213,14 @@ fn push_version_numbers(out: &mut String, version: &NodeVersion) -> Result<(), A
     push_count(out, " floor", version.floor)?;
     push_count(out, " taken", version.taken)?;
     push_count(out, " incarnation", version.incarnation as u64)
+}
+
+/// A word behind an excluded node's numbers.
+fn push_excluded(out: &mut String, excluded: bool) -> Result<(), AllocError>
+    ensures { OnOk result (string_bytes out.new ≡ string_bytes out.old ++ excluded_text excluded) }
+{
+    if excluded {
+        return out.push_str(" excluded");
+    }
+    Ok(())
 }

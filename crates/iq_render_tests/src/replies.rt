@@ -86,6 +86,8 @@ fn each_step_says_its_text(rt: HostRuntime) {
         "@7 horizon 2 freed 0\n",
     );
     says(rt, Said::Restarted { incarnation: 2 }, "@7 restarted 2\n");
+    says(rt, Said::Excluded { incarnation: 2 }, "@7 excluded 2\n");
+    says(rt, Said::Included { commit: 4 }, "@7 included 4\n");
     says(
         rt,
         Said::Space(CENSUS),
@@ -140,6 +142,7 @@ fn rows_stand_after_two_spaces(rt: HostRuntime) -> Result<(), Fail> {
         floor: 3,
         taken: 2,
         incarnation: 1,
+        excluded: true,
     };
     let nodes = Listed::from_vec(vec![in alloc; reader]?);
     let versions = Said::Versions(Versions {
@@ -150,7 +153,7 @@ fn rows_stand_after_two_spaces(rt: HostRuntime) -> Result<(), Fail> {
     says(
         &rt,
         versions,
-        "@7 versions latest 9 horizon 2\n  r position 4 floor 3 taken 2 incarnation 1\n",
+        "@7 versions latest 9 horizon 2\n  r position 4 floor 3 taken 2 incarnation 1 excluded\n",
     );
     Ok(())
 }

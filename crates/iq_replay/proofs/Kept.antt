@@ -47,6 +47,7 @@ session-change s (entries.Back p l name) place session is h = rw (slice_get-othe
 session-change s (entries.Release p l name) place session is h = rw (slice_get-others p place _ s.sessions (λ q. h.elsewhere (ap Some q))) is
 session-change s (entries.Sync p l c) place session is h = rw (slice_get-others p place _ s.sessions (λ q. h.elsewhere (ap Some q))) is
 session-change s (entries.Restart n l incarnation) place session is h = simp (slice_get-map (loses n) s.sessions place, is) (ap Some (loses-other n session (λ q. h.spared (ap Some q))))
+session-change s (entries.Exclude n l incarnation) place session is h = simp (slice_get-map (loses n) s.sessions place, is) (ap Some (loses-other n session (λ q. h.spared (ap Some q))))
 session-change s other place session is h = is
 
 pub reports-change : (s : State) (e : Entry) → is_of_report e ≡ false → HasSameReports s (change s e)
@@ -77,4 +78,6 @@ node-change s (entries.Sync place l c) n h = nodes_at-other (slice_get s.session
 node-change s (entries.Apply m l c) n h = slice_get-others m n _ s.nodes (λ q. h (ap Some q))
 node-change s (entries.Take l number horizon freed) n h = nodes_taking-other (report_of number s.bag) n s.nodes h
 node-change s (entries.Restart m l incarnation) n h = slice_get-others m n _ s.nodes (λ q. h (ap Some q))
+node-change s (entries.Exclude m l incarnation) n h = slice_get-others m n _ s.nodes (λ q. h (ap Some q))
+node-change s (entries.Include m l c) n h = slice_get-others m n _ s.nodes (λ q. h (ap Some q))
 node-change s other n h = refl

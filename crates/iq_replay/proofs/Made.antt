@@ -20,9 +20,9 @@ use Rattle.iq_replay.specs.State.{State, Session, Standing, idle, lost, running,
 use Rattle.iq_replay.specs.Start.{start, node_start, sessions_from}
 use Rattle.iq_replay.specs.Nodes.{kind_position, node_position}
 use Rattle.iq_replay.specs.Causes.{tells_lost}
-use Rattle.iq_replay.specs.Changes.{on_run, holds_more, saves_as, back_to, release_to, begins, took_effect, takes_effect, after_refusal, rolls_back, loses_run, loses, nodes_at, taken_up, nodes_taking, restarted}
+use Rattle.iq_replay.specs.Changes.{on_run, holds_more, saves_as, back_to, release_to, begins, took_effect, takes_effect, after_refusal, rolls_back, loses_run, loses, nodes_at, taken_up, nodes_taking, restarted, excluded, included}
 use Rattle.iq_replay.specs.Laws.{IsMadeSnapshot, AreMade}
-use Rattle.iq_replay.specs.Asked.{OfTurn}
+use Rattle.iq_replay.specs.Asked.{OfStep, OfTurn}
 use Rattle.iq_replay.specs.Lines.{CanBegin}
 use Rattle.iq_replay.specs.Entries.{IsPossible, change}
 use Rattle.iq_replay.specs.Histories.{replay, IsLegal}
@@ -181,6 +181,14 @@ apply_within s n l c h = at_node (slice_get s.nodes n) h
     at_node None p = absurd p
     at_node (Some node) p = rw p.0.1 (omega (arith, p.0.2))
 
+include_within : (s : State) (n l c : ℕ) → IsPossible s (entries.Include n l c) → c ≤ s.latest
+unfolding IsPossible
+include_within s n l c h = at_node (slice_get s.nodes n) h
+  where
+    at_node : (o : Option Node) → IsSomeAnd o (λ node. ((node.excluded ≡ true) × (c ≡ s.latest)) × OfStep s l (λ step. step ≡ steps.Include node.name)) → c ≤ s.latest
+    at_node None p = absurd p
+    at_node (Some node) p = rw p.0.1 (omega arith)
+
 sync_within : (s : State) (place l c : ℕ) → IsPossible s (entries.Sync place l c) → c ≤ s.latest
 unfolding IsPossible
 sync_within s place l c h = rw h.1 (omega arith)
@@ -251,6 +259,14 @@ AreMade-change s (entries.Own n l horizon freed) h made = record { snapshots = m
 AreMade-change s (entries.Restart n l incarnation) h made = record {
   snapshots = AllByRecursion-map _ (loses n) s.sessions (λ session. snapshot-lost s.latest n session) made.snapshots;
   positions = one_node s.latest n s.latest (restarted s.latest incarnation) s.nodes (omega arith) (λ node. refl) made.positions;
+}
+AreMade-change s (entries.Exclude n l incarnation) h made = record {
+  snapshots = AllByRecursion-map _ (loses n) s.sessions (λ session. snapshot-lost s.latest n session) made.snapshots;
+  positions = AllByRecursion-changed (λ (node : Node). node_position s.latest node ≤ s.latest) n (excluded incarnation) s.nodes (λ node is was. was) made.positions;
+}
+AreMade-change s (entries.Include n l c) h made = record {
+  snapshots = made.snapshots;
+  positions = one_node s.latest n c (included c) s.nodes (include_within s n l c h) (λ node. refl) made.positions;
 }
 AreMade-change s (entries.Space l census) h made = record { snapshots = made.snapshots; positions = made.positions }
 AreMade-change s (entries.Versions l) h made = record { snapshots = made.snapshots; positions = made.positions }

@@ -63,7 +63,7 @@ pub record IsHalted (s : State) (place : ℕ) (session : Session) (statement : S
   pub granted : IsGranted (checks_below 7 (line_checks s place session statement))
 
 -- CAUSES THAT A LINE CAN MEET BESIDE THE FIRST, one row each; the others have no row here.
---   Lost: at any place of a line, where the transaction was ended by a restart of the node.
+--   Lost: at any place of a line, where the transaction was ended by a restart or an exclusion of the node.
 --   Halted: a halt of that commit stands before.
 --   NoSpace: no block is free, and the numbers are those of all blocks.
 --   StoreFault: the count rose since the last one told.
@@ -78,6 +78,7 @@ IsMet s place session statement (refusals.NoSpace census) =
 IsMet s place session statement (refusals.StoreFault before after) = IsWorking session statement × Rises s.faults before after
 IsMet s place session statement (refusals.BadPage object page) = IsWorking session statement × (s.told ≡ false)
 IsMet s place session statement refusals.NoMemory = IsOpen session.stage
+IsMet s place session statement (refusals.Excluded node) = ⊥
 IsMet s place session statement refusals.InTransaction = ⊥
 IsMet s place session statement refusals.NoTransaction = ⊥
 IsMet s place session statement (refusals.NoSavepoint name) = ⊥
@@ -102,6 +103,7 @@ IsMet s place session statement (refusals.IndexUnfit column) = ⊥
 IsMet s place session statement (refusals.TooManyDistinct index distinct) = ⊥
 IsMet s place session statement (refusals.NoNode name) = ⊥
 IsMet s place session statement (refusals.IsCoordinator name) = ⊥
+IsMet s place session statement (refusals.NotExcluded node) = ⊥
 IsMet s place session statement (refusals.NoReport number) = ⊥
 IsMet s place session statement (refusals.AtEnd c) = ⊥
 
@@ -115,6 +117,7 @@ CanRefuse s place cause session statement =
 -- whether a refusal tells the session that its transaction was lost
 abbrev pub tells_lost : Refusal → Bool
 tells_lost (refusals.Lost incarnation) = true
+tells_lost (refusals.Excluded node) = false
 tells_lost refusals.InTransaction = false
 tells_lost refusals.NoTransaction = false
 tells_lost (refusals.NoSavepoint name) = false
@@ -143,6 +146,7 @@ tells_lost (refusals.StoreFault before after) = false
 tells_lost (refusals.BadPage object page) = false
 tells_lost (refusals.NoNode name) = false
 tells_lost (refusals.IsCoordinator name) = false
+tells_lost (refusals.NotExcluded node) = false
 tells_lost (refusals.NoReport number) = false
 tells_lost (refusals.AtEnd c) = false
 tells_lost refusals.NoMemory = false
@@ -151,6 +155,7 @@ tells_lost refusals.NoMemory = false
 abbrev pub faults_after : Refusal → ℕ → ℕ
 faults_after (refusals.StoreFault before after) told = after
 faults_after (refusals.Lost incarnation) told = told
+faults_after (refusals.Excluded node) told = told
 faults_after refusals.InTransaction told = told
 faults_after refusals.NoTransaction told = told
 faults_after (refusals.NoSavepoint name) told = told
@@ -178,6 +183,7 @@ faults_after (refusals.NoSpace census) told = told
 faults_after (refusals.BadPage object page) told = told
 faults_after (refusals.NoNode name) told = told
 faults_after (refusals.IsCoordinator name) told = told
+faults_after (refusals.NotExcluded node) told = told
 faults_after (refusals.NoReport number) told = told
 faults_after (refusals.AtEnd c) told = told
 faults_after refusals.NoMemory told = told

@@ -196,6 +196,13 @@ with_lost n s = record s { sessions = map (loses n) s.sessions }
 abbrev pub restarted : ℕ → ℕ → Node → Node
 restarted c incarnation node = record node { incarnation = incarnation; position = c }
 
+abbrev pub excluded : ℕ → Node → Node
+excluded incarnation node = record node { incarnation = incarnation; excluded = true }
+
+-- an included node stands at a commit, and needs none before it
+abbrev pub included : ℕ → Node → Node
+included c node = record node { excluded = false; position = c; taken = c }
+
 -- REPORTS
 
 abbrev pub without_report : ℕ → List Report → List Report
@@ -239,6 +246,7 @@ versions_from s n (node ∷ nodes) =
       floor = floor_of s n node;
       taken = taken_of s n node;
       incarnation = node.incarnation;
+      excluded = node.excluded;
     }
     ∷ versions_from s (n + 1) nodes
 

@@ -14,7 +14,7 @@ use Rattle.iq_replay.specs.Commits.{database_of, with_commit}
 use Rattle.iq_replay.specs.Asked.{OfLine, OfStep, OfTurn, OfNode, OfNodeStep, IsSecondary, Counts, IsZeroUnless}
 use Rattle.iq_replay.specs.Causes.{CanRefuse, faults_after}
 use Rattle.iq_replay.specs.Lines.{CanBegin, CanLock, CanTake, CanCommit, CanHalt, CanEndWithout, CanRun, CanRollBack, CanRefuseStep}
-use Rattle.iq_replay.specs.Changes.{statement_of, begins, locks_more, takes_effect, refused, commits, ends, rolls_back, ends_line, works, saves_as, back_to, release_to, work_of, nodes_at, with_lost, restarted, without_report, with_taken, with_base, step_ends, versions_of}
+use Rattle.iq_replay.specs.Changes.{statement_of, begins, locks_more, takes_effect, refused, commits, ends, rolls_back, ends_line, works, saves_as, back_to, release_to, work_of, nodes_at, with_lost, restarted, excluded, included, without_report, with_taken, with_base, step_ends, versions_of}
 
 -- WHERE AN ENTRY IS POSSIBLE
 
@@ -42,10 +42,10 @@ IsPossible s (entries.Back place l name) = OfLine s place l (CanRun s place (sta
 IsPossible s (entries.Release place l name) = OfLine s place l (CanRun s place (statements.Release name))
 -- a session without a transaction; the latest commit
 IsPossible s (entries.Sync place l c) = OfLine s place l (CanRun s place statements.Sync) × (c ≡ s.latest)
--- the commit behind the node's position, where there is one
+-- the commit behind the position of a node that isn't excluded, where there is one
 IsPossible s (entries.Apply n l c) = OfNode s n l steps.Apply (λ node.
     (node.excluded ≡ false) × (c ≡ node_position s.latest node + 1) × (node_position s.latest node < s.latest))
--- a secondary; the next number, and its floor
+-- a secondary that isn't excluded; the next number, and its floor
 IsPossible s (entries.Send n l number floor) = OfNode s n l steps.Report (λ node.
     IsSecondary node × (number ≡ s.next) × (floor ≡ floor_of s n node))
 -- a report that is in the bag
@@ -56,9 +56,13 @@ IsPossible s (entries.Take l number horizon freed) = OfTurn s l (λ step. step �
 -- the coordinator, and the horizon
 IsPossible s (entries.Own n l horizon freed) = OfNode s n l steps.Report (λ node.
     (is_coordinator node.kind ≡ true) × (horizon ≡ horizon_of s))
--- a secondary, and its incarnation plus 1
+-- a secondary that isn't excluded, and its incarnation plus 1
 IsPossible s (entries.Restart n l incarnation) = OfNodeStep s n l steps.Restart (λ node.
     IsSecondary node × (incarnation ≡ node.incarnation + 1))
+-- a secondary that isn't excluded, and its incarnation plus 1; an excluded node, and the latest commit
+IsPossible s (entries.Exclude n l incarnation) = OfNodeStep s n l steps.Exclude (λ node.
+    IsSecondary node × (incarnation ≡ node.incarnation + 1))
+IsPossible s (entries.Include n l c) = OfNodeStep s n l steps.Include (λ node. (node.excluded ≡ true) × (c ≡ s.latest))
 -- all blocks; nothing waits at the latest base, and nothing is private where no transaction holds a name
 IsPossible s (entries.Space l census) = OfStep s l (λ step. step ≡ steps.Space) × Counts s.blocks census
     × IsZeroUnless (nat_lt s.base s.latest) census.waiting × IsZeroUnless (is_writing s.sessions) census.private
@@ -104,6 +108,9 @@ change s (entries.Take l number horizon freed) = step_ends l (said.Taken (record
 change s (entries.Own n l horizon freed) = step_ends l (said.Sent (sent.Own horizon freed)) (with_base horizon s)
 -- its running transactions are lost; its incarnation; its position is the latest
 change s (entries.Restart n l incarnation) = step_ends l (said.Restarted incarnation) (with_lost n (with_node n (restarted s.latest incarnation) s))
+-- the same, but its position stands still and it is excluded; it isn't, and its position and taken floor are the commit
+change s (entries.Exclude n l incarnation) = step_ends l (said.Excluded incarnation) (with_lost n (with_node n (excluded incarnation) s))
+change s (entries.Include n l c) = step_ends l (said.Included c) (with_node n (included c) s)
 -- nothing but the answer
 change s (entries.Space l census) = step_ends l (said.Space census) s
 change s (entries.Versions l) = step_ends l (said.Versions (versions_of s)) s

@@ -62,6 +62,8 @@ line_of (entries.Lose l number) = l
 line_of (entries.Take l number horizon freed) = l
 line_of (entries.Own n l horizon freed) = l
 line_of (entries.Restart n l incarnation) = l
+line_of (entries.Exclude n l incarnation) = l
+line_of (entries.Include n l c) = l
 line_of (entries.Space l census) = l
 line_of (entries.Versions l) = l
 
@@ -85,6 +87,8 @@ closes (entries.Lose l number) = false
 closes (entries.Take l number horizon freed) = false
 closes (entries.Own n l horizon freed) = false
 closes (entries.Restart n l incarnation) = false
+closes (entries.Exclude n l incarnation) = false
+closes (entries.Include n l c) = false
 closes (entries.Space l census) = false
 closes (entries.Versions l) = false
 

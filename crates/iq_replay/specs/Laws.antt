@@ -29,6 +29,8 @@ session_in (entries.Lose l number) = None
 session_in (entries.Take l number horizon freed) = None
 session_in (entries.Own n l horizon freed) = None
 session_in (entries.Restart n l incarnation) = None
+session_in (entries.Exclude n l incarnation) = None
+session_in (entries.Include n l c) = None
 session_in (entries.Space l census) = None
 session_in (entries.Versions l) = None
 
@@ -52,6 +54,8 @@ node_in (entries.Lose l number) = None
 node_in (entries.Take l number horizon freed) = None
 node_in (entries.Own n l horizon freed) = None
 node_in (entries.Restart n l incarnation) = Some n
+node_in (entries.Exclude n l incarnation) = Some n
+node_in (entries.Include n l c) = None
 node_in (entries.Space l census) = None
 node_in (entries.Versions l) = None
 
@@ -88,6 +92,8 @@ node_changed s (entries.Lose l number) = None
 node_changed s (entries.Take l number horizon freed) = report_node (report_of number s.bag)
 node_changed s (entries.Own n l horizon freed) = None
 node_changed s (entries.Restart n l incarnation) = Some n
+node_changed s (entries.Exclude n l incarnation) = Some n
+node_changed s (entries.Include n l c) = Some n
 node_changed s (entries.Space l census) = None
 node_changed s (entries.Versions l) = None
 
@@ -111,6 +117,8 @@ is_of_report (entries.Lose l number) = true
 is_of_report (entries.Take l number horizon freed) = true
 is_of_report (entries.Own n l horizon freed) = true
 is_of_report (entries.Restart n l incarnation) = false
+is_of_report (entries.Exclude n l incarnation) = false
+is_of_report (entries.Include n l c) = false
 is_of_report (entries.Space l census) = false
 is_of_report (entries.Versions l) = false
 
@@ -136,6 +144,8 @@ commit_in (entries.Lose l number) = None
 commit_in (entries.Take l number horizon freed) = None
 commit_in (entries.Own n l horizon freed) = None
 commit_in (entries.Restart n l incarnation) = None
+commit_in (entries.Exclude n l incarnation) = None
+commit_in (entries.Include n l c) = None
 commit_in (entries.Space l census) = None
 commit_in (entries.Versions l) = None
 

@@ -18,12 +18,21 @@ use Rattle.iq_replay.specs.Commits.{latest_of}
 
 -- TESTS OF THE SESSION AND ITS NODE
 
--- the session's transaction was ended by a restart of its node; the node's incarnation now
+-- the session's transaction was ended by a restart or an exclusion of its node; the node's incarnation now
 abbrev pub lost_refusal : Option Node → Standing → Option Refusal
 lost_refusal None standing = None
 lost_refusal (Some node) idle = None
 lost_refusal (Some node) lost = Some (refusals.Lost node.incarnation)
 lost_refusal (Some node) (running run) = None
+
+-- the refusal of a node, where it is there
+abbrev pub at_node : (Node → Option Refusal) → Option Node → Option Refusal
+at_node test None = None
+at_node test (Some node) = test node
+
+-- a node that is excluded
+abbrev pub excluded_refusal : Node → Option Refusal
+excluded_refusal node = found_if node.excluded (refusals.Excluded node.name)
 
 -- a write on a reader
 abbrev pub reader_refusal : Option Node → Statement → Option Refusal
@@ -124,11 +133,12 @@ run_checks s place (running run) statement =
     ∷ record { order = 9; found = first_found (later_refusal s.wrote run.snapshot) (wanted statement run) }
     ∷ room_checks statement run.start.seen
 
--- ALL TESTS OF A LINE, in the order in which they are made: 2 a lost transaction, 3 the transaction's state, 4 a reader, 5 names,
+-- ALL TESTS OF A LINE, in the order in which they are made: 2 a lost transaction and an excluded node, 3 the transaction's state, 4 a reader, 5 names,
 -- 6 types and values, 7 a halt, 8 a lock of another, 9 a later commit, 10 room
 abbrev pub line_checks : State → ℕ → Session → Statement → List Check
 line_checks s place session statement =
     record { order = 2; found = lost_refusal (slice_get s.nodes session.node) session.standing }
+    ∷ record { order = 2; found = at_node excluded_refusal (slice_get s.nodes session.node) }
     ∷ record { order = 3; found = transaction_refusal (before_line session.standing) statement }
     ∷ record { order = 4; found = reader_refusal (slice_get s.nodes session.node) statement }
     ∷ run_checks s place session.standing statement
@@ -145,11 +155,6 @@ checks_but order checks = filter (λ (check : Check). not (nat_eq check.order or
 abbrev pub no_node : State → Name → Option Refusal
 no_node s name = found_if (is_none (node_named s name)) (refusals.NoNode name)
 
--- the refusal of the node of a name, where it is there
-abbrev pub at_node : (Node → Option Refusal) → Option Node → Option Refusal
-at_node test None = None
-at_node test (Some node) = test node
-
 abbrev pub coordinator_refusal : Node → Option Refusal
 coordinator_refusal node = found_if (is_coordinator node.kind) (refusals.IsCoordinator node.name)
 
@@ -160,12 +165,22 @@ end_refusal latest node = found_if (nat_eq (node_position latest node) latest) (
 abbrev pub no_report : State → ℕ → Option Refusal
 no_report s number = found_if (is_none (report_of number s.bag)) (refusals.NoReport number)
 
+abbrev pub included_refusal : Node → Option Refusal
+included_refusal node = found_if (not node.excluded) (refusals.NotExcluded node.name)
+
+-- the first refusal of a step at a node: it isn't there, or what these tests find, one after the other
+abbrev pub node_refusal : State → Name → List (Node → Option Refusal) → Option Refusal
+node_refusal s name tests =
+    option_or (no_node s name) (first_found (λ (test : Node → Option Refusal). at_node test (node_named s name)) tests)
+
 -- the first refusal of a step
 abbrev pub step_refusal : State → Step → Option Refusal
-step_refusal s (steps.Apply name) = option_or (no_node s name) (at_node (end_refusal s.latest) (node_named s name))
-step_refusal s (steps.Report name) = no_node s name
+step_refusal s (steps.Apply name) = node_refusal s name (excluded_refusal ∷ end_refusal s.latest ∷ [])
+step_refusal s (steps.Report name) = node_refusal s name (excluded_refusal ∷ [])
 step_refusal s (steps.Lose number) = no_report s number
 step_refusal s (steps.Take number) = no_report s number
-step_refusal s (steps.Restart name) = option_or (no_node s name) (at_node coordinator_refusal (node_named s name))
+step_refusal s (steps.Restart name) = node_refusal s name (coordinator_refusal ∷ excluded_refusal ∷ [])
+step_refusal s (steps.Exclude name) = node_refusal s name (coordinator_refusal ∷ excluded_refusal ∷ [])
+step_refusal s (steps.Include name) = node_refusal s name (coordinator_refusal ∷ included_refusal ∷ [])
 step_refusal s steps.Space = None
 step_refusal s steps.Versions = None

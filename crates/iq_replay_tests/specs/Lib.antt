@@ -10,3 +10,5 @@ pub mod Interleaved
 pub mod LostAtTheEnd
 pub mod WantOfMemory
 pub mod Queries
+pub mod Exclusion
+pub mod ExcludedSteps

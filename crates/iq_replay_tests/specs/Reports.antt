@@ -1,5 +1,5 @@
 -- Versions beneath a reader, and reports that are late and repeated.
-use Rattle.std.specs.Prelude.{true, List, [], ◌∷◌, Option, Some, None, codes}
+use Rattle.std.specs.Prelude.{true, false, List, [], ◌∷◌, Option, Some, None, codes}
 use Rattle.iq_base.specs.declared.nodes.NodeKind.TheVariants as node_kinds
 use Rattle.iq_base.specs.declared.refusals.Refusal.TheVariants as refusals
 use Rattle.iq_ast.specs.declared.statements.Statement.TheVariants as statements
@@ -12,7 +12,7 @@ use Rattle.iq_model.specs.declared.scripts.Script.{Script}
 use Rattle.iq_model.specs.declared.scripts.Step.TheVariants as steps
 use Rattle.iq_replay.specs.State.{State}
 use Rattle.iq_replay.specs.Start.{start}
-use Rattle.iq_replay_tests.specs.Words.{node, session, line, step, create, insert, delete_all, delete_equal, select, reply, rows, census}
+use Rattle.iq_replay_tests.specs.Words.{node, session, line, step, create, insert, delete_all, delete_equal, select, reply, rows, census, version, versions}
 
 abbrev pub script : Script
 script =
@@ -104,5 +104,5 @@ answered =
     ∷ reply 21 (said.Space (census 53 0 0 7 0))
     ∷ reply 22 (said.Refused (refusals.AtEnd 4))
     ∷ reply 23 (said.Refused (refusals.ReadOnly (codes "r1")))
-    ∷ reply 24 (said.Versions (record { latest = 4; horizon = 4; nodes = record { node = 0; position = 4; floor = 4; taken = 4; incarnation = 1 } ∷ record { node = 1; position = 4; floor = 4; taken = 4; incarnation = 1 } ∷ [] }))
+    ∷ reply 24 (versions 4 4 (version 0 4 4 4 1 false ∷ version 1 4 4 4 1 false ∷ []))
     ∷ []

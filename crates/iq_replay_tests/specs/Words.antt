@@ -1,5 +1,5 @@
 -- Words for scripts, histories and replies written by hand.
-use Rattle.std.specs.Prelude.{ℕ, pos, suc, zero, true, false, List, [], ◌∷◌, Option, Some, None, map}
+use Rattle.std.specs.Prelude.{ℕ, Bool, pos, suc, zero, true, false, List, [], ◌∷◌, Option, Some, None, map}
 use Rattle.iq_base.specs.Shorts.{Name}
 use Rattle.iq_base.specs.declared.nodes.NodeKind.{NodeKind}
 use Rattle.iq_base.specs.declared.nodes.NodeSpec.{NodeSpec}
@@ -20,6 +20,7 @@ use Rattle.iq_ast.specs.declared.statements.Statement.TheVariants as statements
 use Rattle.iq_ast.specs.declared.statements.Write.TheVariants as writes
 use Rattle.iq_history.specs.declared.entries.Entry.{Entry}
 use Rattle.iq_model.specs.declared.answers.Answer.TheVariants as answers
+use Rattle.iq_model.specs.declared.answers.NodeVersion.{NodeVersion}
 use Rattle.iq_model.specs.declared.answers.Out.{Out}
 use Rattle.iq_model.specs.declared.answers.Out.TheVariants as outs
 use Rattle.iq_model.specs.declared.replies.Reply.{Reply}
@@ -102,6 +103,14 @@ census free reserved private reached waiting =
 
 abbrev pub no_space : ℕ → ℕ → ℕ → ℕ → ℕ → Refusal
 no_space free reserved private reached waiting = refusals.NoSpace (census free reserved private reached waiting)
+
+-- what VERSIONS tells of the node at a place: its position, floor, taken floor and incarnation, and whether it is excluded
+abbrev pub version : ℕ → ℕ → ℕ → ℕ → ℕ → Bool → NodeVersion
+version place position floor taken incarnation excluded =
+    record { node = place; position = position; floor = floor; taken = taken; incarnation = incarnation; excluded = excluded }
+
+abbrev pub versions : ℕ → ℕ → List NodeVersion → Said
+versions latest horizon nodes = said.Versions (record { latest = latest; horizon = horizon; nodes = nodes })
 
 -- HISTORIES
 

@@ -4,6 +4,8 @@
 //! Each is the contract of a function that does nothing, proved by computing the definitions of `iq_replay`, which stands below.
 #![tactic(auto)]
 
+pub mod excluded_steps;
+pub mod exclusion;
 pub mod full_stores;
 pub mod halts;
 pub mod interleaved;

@@ -1,0 +1,13 @@
+pub mod Left
+pub mod Stays
+pub mod Checks
+pub mod Next
+pub mod Steps
+pub mod Sound
+pub mod Goes
+pub mod Same
+pub mod Found
+pub mod Fixed
+pub mod Early
+pub mod Whole
+pub mod Starts
