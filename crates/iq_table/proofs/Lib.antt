@@ -1,3 +1,4 @@
+pub mod KindLists
 pub mod Room
 pub mod Moves
 pub mod Making

@@ -1,14 +1,15 @@
 //! A table: its place and its descriptor.
-ghost use Rattle.std.specs.Prelude.{◌≡◌, ◌<◌, ◌≤◌, ◌+◌, ◌*◌, ℕ, [], length, map, OnOk, IfOk, IfErr};
+ghost use Rattle.std.specs.Prelude.{◌≡◌, ◌<◌, ◌≤◌, ◌+◌, ◌*◌, ℕ, [], length, map, IsTrue, OnOk, IfOk, IfErr};
 ghost use Rattle.iq_pages.specs.PageCalls.{view};
 ghost use Rattle.iq_pages.specs.Pages.{CountsMore};
 ghost use Rattle.iq_base.specs.Cells.{width};
-ghost use Rattle.iq_table.specs.Places.{new_part, no_ref, part_at};
+ghost use Rattle.iq_table.specs.Places.{new_part, no_ref, part_at, part_kinds};
 ghost use Rattle.iq_table.specs.Table.{TableStands};
 ghost use Rattle.iq_table.specs.Calls.{new_parts, IsUnused, TellsObjects, KeepsOtherTables, HasMakeCause};
 
 use crate::places::existence_of;
 use iq_base::{Column, ColumnPart, Descriptor, Listed, Name, NoMemory, Ref, width};
+use iq_cells::Rows;
 use iq_pages::{PageFault, PageSink};
 use std::alloc::Global;
 
@@ -42,6 +43,13 @@ impl Table {
         })
     }
 
+    /// Whether rows may be put behind those of the table: their columns hold what the table's hold.
+    pub fn takes(&self, rows: &Rows) -> bool
+        ensures { IsTrue result → rows.now.kinds ≡ part_kinds self.now.parts.columns }
+    {
+        have_kinds(self.parts.columns.as_slice(), rows)
+    }
+
     /// Makes the objects of a table without rows. It writes no page.
     pub fn create<S: PageSink>(&self, sink: &mut S) -> Result<(), PageFault>
         requires place { self.now.place < 64 }
@@ -62,6 +70,21 @@ impl Table {
         }
         Ok(())
     }
+}
+
+/// Whether columns of rows hold what columns of a table hold.
+fn have_kinds(parts: &[ColumnPart], rows: &Rows) -> bool
+    ensures { IsTrue result → rows.now.kinds ≡ part_kinds parts.now }
+{
+    if rows.width() != parts.len() {
+        return false;
+    }
+    for c in 0..parts.len() {
+        if rows.column(c).kind() != parts[c].kind {
+            return false;
+        }
+    }
+    true
 }
 
 /// An object without pages.
