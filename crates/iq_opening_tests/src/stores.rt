@@ -1,7 +1,7 @@
 //! Right stores, and devices that fail.
 use crate::images::{root, two_tables, zeros};
 use iq_base::NoMemory;
-use iq_opening::{OpenFault, Opening, StoreCause, open};
+use iq_opening::{OpenFault, Opening, StoreCause, free_list, open};
 use iq_outside::{Block, MemoryDevice, SureDevice};
 use std::alloc::Global;
 use std::test::Fail;
@@ -41,6 +41,16 @@ fn a_store_opens_with_its_tables_and_what_they_reach(rt: HostRuntime) -> Result<
         ("", 0),
         "an empty store of 4 blocks"
     );
+    Ok(())
+}
+
+#[test]
+fn the_blocks_that_nothing_reaches_are_free(rt: HostRuntime) -> Result<(), Fail> {
+    let alloc = rt.alloc();
+    let opening = opened(alloc, two_tables(alloc)?)?;
+    let mut free = free_list(alloc, &opening.reached)?;
+    assert_eq!(rt; free.len(), 6, "blocks 74 to 79");
+    assert_eq!(rt; free.take(), Some(74));
     Ok(())
 }
 
