@@ -7,7 +7,7 @@ ghost use Rattle.iq_cells.specs.Fields.{number_cause, text_cause, HasFieldCause,
 ghost use Rattle.iq_cells.specs.Faults.{HasCellsCause};
 
 use crate::fields::{FieldFault, number_cause, text_cause};
-use crate::orders::{cell_order, is_null_cell};
+use crate::orders::{cell_order, cell_to_value, is_null_cell};
 use crate::packed::{are_cells, cell_of, copy_cells, put_behind, put_text_behind};
 use iq_base::{FieldCause, Kind, NoMemory, Page, Value, cell_get, width};
 use std::alloc::{AllocError, Global};
@@ -126,15 +126,22 @@ impl Cells {
         self.cell(i) == other.cell(j)
     }
 
-    /// How a value stands to one of another column of the kind, in the order of values: NULL before numbers, and those before
-    /// texts; numbers by value, texts by their bytes. It makes no `Value`.
+    /// How a value stands to one of another column, whatever the kinds, in the order of values: NULL before numbers, and those
+    /// before texts; numbers by value, texts by their bytes. It makes no `Value`.
     pub fn compare(&self, i: usize, other: &Cells, j: usize) -> Ordering
-        requires kind { other.now.kind ≡ self.now.kind }
         requires this { i < length self.now.values }
         requires other { j < length other.now.values }
         ensures { result ≡ value_order (value_at i self.now.values) (value_at j other.now.values) }
     {
-        cell_order(self.kind(), self.cell(i), other.cell(j))
+        cell_order(self.kind(), self.cell(i), other.kind(), other.cell(j))
+    }
+
+    /// How a value of the column stands to a value, in the same order. It makes no `Value` of the cell.
+    pub fn compare_to(&self, i: usize, value: &Value) -> Ordering
+        requires { i < length self.now.values }
+        ensures { result ≡ value_order (value_at i self.now.values) value.now }
+    {
+        cell_to_value(self.kind(), self.cell(i), value)
     }
 
     /// Puts a value at the end. The column is as before where memory is wanting.

@@ -21,4 +21,5 @@ pub use fields::{
     text_cause,
 };
 pub use orders::value_order;
+pub use packed::value_in_page;
 pub use rows::Rows;

@@ -1,10 +1,10 @@
 //! Bytes of cells that lie one behind the other.
-ghost use Rattle.std.specs.Prelude.{◌≡◌, ◌<◌, ◌≤◌, ◌↔◌, ◌∷◌, ◌++◌, ◌+◌, ◌-◌, ◌*◌, length, IsTrue, OnOk, OnErr};
+ghost use Rattle.std.specs.Prelude.{◌≡◌, ◌<◌, ◌≤◌, ◌↔◌, ◌∷◌, ◌++◌, ◌+◌, ◌-◌, ◌*◌, length, IsTrue, IfOk, OnOk, OnErr};
 ghost use Rattle.iq_base.specs.declared.sizes.TheConstants.{PAGE_BYTES};
 ghost use Rattle.iq_base.specs.Cells.{width, IsOf, IsText, IsCell, cell, padded};
-ghost use Rattle.iq_cells.specs.Packed.{cell_in, value_of_cell, AreCells, KeepsCells, CopiesCells};
+ghost use Rattle.iq_cells.specs.Packed.{per_page, cell_in, value_of_cell, AreCells, KeepsCells, CopiesCells};
 
-use iq_base::{Kind, NoMemory, Page, Value, cell_get, cell_put, width};
+use iq_base::{BadCell, Kind, NoMemory, Page, Value, cell_get, cell_put, width};
 
 /// The bytes of one cell.
 pub(crate) fn cell_of(kind: Kind, bytes: &[u8], i: usize) -> &[u8]
@@ -14,6 +14,16 @@ pub(crate) fn cell_of(kind: Kind, bytes: &[u8], i: usize) -> &[u8]
     let width = width(kind);
     let at = i * width;
     &bytes[at..at + width]
+}
+
+/// The value of cell i of a page.
+pub fn value_in_page(kind: Kind, page: &Page, i: usize) -> Result<Value, BadCell>
+    requires { i < per_page kind }
+    ensures ok { IfOk result (λ value. IsCell kind value (cell_in kind page.now i)) }
+    ensures err { let bytes = cell_in kind page.now i in
+        OnErr result (¬ (IsCell kind (value_of_cell kind bytes) bytes)) }
+{
+    cell_get(kind, cell_of(kind, page, i))
 }
 
 /// Whether the bytes, as many as a cell has, are the cell of a value of the kind.

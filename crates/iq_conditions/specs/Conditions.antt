@@ -6,9 +6,10 @@ use Rattle.iq_ast.specs.declared.conditions.Test.{Test}
 use Rattle.iq_ast.specs.declared.conditions.Test.TheVariants as tests
 use Rattle.iq_ast.specs.declared.conditions.Cond.{Cond, Row_of-Cond, end_of-Cond, more_of-Cond}
 use Rattle.iq_ast.specs.declared.conditions.Cond as conds
-use Rattle.iq_conditions.specs.declared.truths.Truth.{Truth}
-use Rattle.iq_conditions.specs.declared.truths.Truth.TheVariants.{False, True}
-use Rattle.iq_conditions.specs.Truths.{truth_not, truth_and, truth_or, test_truth}
+use Rattle.iq_truth.specs.declared.truth.Truth.{Truth}
+use Rattle.iq_truth.specs.declared.truth.Truth.TheVariants.{False, True}
+use Rattle.iq_truth.specs.Truths.{truth_not, truth_and, truth_or}
+use Rattle.iq_truth.specs.Tests.{test_truth}
 
 -- CONDITIONS LEVEL BY LEVEL
 

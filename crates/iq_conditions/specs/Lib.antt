@@ -1,4 +1,3 @@
-pub mod Truths
 pub mod Conditions
 pub mod Carried
 pub mod Servers

@@ -13,7 +13,7 @@ use Rattle.iq_ast.specs.declared.conditions.Test.{Test}
 use Rattle.iq_ast.specs.declared.conditions.Test.TheVariants as tests
 use Rattle.iq_conditions.specs.declared.servers.Server.{Server}
 use Rattle.iq_conditions.specs.declared.servers.Server.TheVariants.{Index, Fp, Nothing}
-use Rattle.iq_conditions.specs.Truths.{is_null}
+use Rattle.iq_truth.specs.Comparisons.{is_null}
 
 -- whether two names are one
 abbrev pub same_name : Name → Name → Bool

@@ -6,7 +6,5 @@
 #![tactic(auto)]
 
 mod servers;
-mod truths;
 
 pub use servers::Server;
-pub use truths::Truth;

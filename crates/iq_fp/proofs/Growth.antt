@@ -1,5 +1,5 @@
 -- A column goes on with more values.
-use Rattle.std.proofs.Common.{◌≡◌, ◌≢◌, ◌<◌, ◌≤◌, ℕ, ◌+◌, ◌-◌, ◌*◌, ◌/◌, ◌%◌, ◌^◌, inl, inr, List, [], ◌∷◌, ◌++◌, map, take, drop, Option, Some, None, IfSome, length, slice_index, append-nil, append_assoc, zero-add, Bool, true, false, nat_eq, eq-eqb, if◌then◌else◌, refl, sym, ap, ap₂, ◌∙◌, subst, arith}
+use Rattle.std.proofs.Common.{◌≡◌, ◌≢◌, ◌<◌, ◌≤◌, ℕ, ◌+◌, ◌-◌, ◌*◌, ◌/◌, ◌%◌, ◌^◌, inl, inr, List, [], ◌++◌, map, Option, length, slice_index, zero-add, Bool, true, false, nat_eq, eq-eqb, if◌then◌else◌, sym, ap, ap₂, ◌∙◌, subst, arith}
 use Rattle.std.specs.Prelude.{Result, Ok, Err, OnOk}
 use Rattle.iq_pages.specs.declared.page_faults.PageFault.{PageFault}
 use Rattle.std.proofs.lemmas.Bool.{cases_lt}
@@ -14,7 +14,7 @@ use Rattle.iq_pages.proofs.PageLaws.{counts_on}
 use Rattle.std.proofs.lemmas.Bool.Decides.{nat_tests}
 use Rattle.iq_cells.specs.Pieces.{piece_in}
 use Rattle.iq_cells.specs.Packed.{value_at}
-use Rattle.iq_numbering.specs.Numbers.{AreDistinct, IsAt, IsFirstUse, IsNumbered}
+use Rattle.iq_numbering.specs.Numbers.{AreDistinct, IsAt, IsNumbered}
 use Rattle.iq_pieces.specs.Counts.{per_page, pages_changed}
 use Rattle.iq_pieces.specs.Codes.{AreBelow}
 use Rattle.iq_pieces.specs.Objects.{piece_at, HoldsObject, BeginsAs, Appends, AppendsBehind, HoldsAnew}
@@ -151,6 +151,11 @@ values_are fp told values stands =
     let long : length (map (λ (code : ℕ). value_at code stands.known) stands.codes) ≡ length values = length-map stands.codes (λ (code : ℕ). value_at code stands.known) ∙ stands.numbered.long in
     ext_get_or Null (map (λ (code : ℕ). value_at code stands.known) stands.codes) values long
     (λ i h. get_or-map (λ (code : ℕ). value_at code stands.known) stands.codes i 0 Null (omega (arith, long, stands.numbered.long)) ∙ (stands.numbered.each i (omega (arith, long))).there)
+
+-- so the distinct value at the code of a row is the row's
+pub value_of_row : (fp : Fp) (told : ℕ → Option Pages) (values : List Value) (stands : Stands fp told values) (row code : ℕ) (v : Value) → row < fp.slots → code ≡ slice_index stands.codes row → v ≡ value_at code stands.known → v ≡ value_at row values
+value_of_row fp told values stands row code v less is there =
+    there ∙ ap (λ (n : ℕ). value_at n stands.known) is ∙ (stands.numbered.each row (omega (arith, stands.slots))).there
 
 -- what a column stands for depends only on the pages of its two objects
 abbrev pub stands_there : (fp : Fp) (told told' : ℕ → Option Pages) (values : List Value) → told' fp.codes ≡ told fp.codes → told' fp.values ≡ told fp.values → Stands fp told values → Stands fp told' values

@@ -1,5 +1,5 @@
 -- What the calls on a column give, and why they fail.
-use Rattle.std.specs.Prelude.{◌≡◌, ◌≢◌, ◌<◌, ◌≤◌, ℕ, ◌+◌, ◌-◌, ◌*◌, ◌^◌, max, List, ◌++◌, ◌⊎◌, Option, Some, None, length, map, nat_eq, slice_index, if◌then◌else◌, ⊤}
+use Rattle.std.specs.Prelude.{◌≡◌, ◌≢◌, ◌<◌, ◌≤◌, ℕ, ◌+◌, ◌-◌, ◌*◌, ◌^◌, max, List, ◌++◌, ◌⊎◌, Option, Some, None, length, map, nat_eq, if◌then◌else◌, ⊤}
 use Rattle.byteorder.specs.Endian.{little_bytes}
 use Rattle.iq_pieces.specs.Codes.{AreBelow}
 use Rattle.iq_base.specs.declared.values.Value.{Value}
@@ -11,13 +11,13 @@ use Rattle.iq_pages.specs.Pages.{Pages, Seen, CountsMore}
 use Rattle.iq_base.specs.declared.sizes.TheConstants.{MOST_PAGES}
 use Rattle.iq_cells.specs.Packed.{Column, value_at}
 use Rattle.iq_numbering.specs.declared.places.Numbered.{Numbered}
-use Rattle.iq_pieces.specs.Counts.{per_page, pages_for, pages_changed, CountsUpTo}
+use Rattle.iq_pieces.specs.Counts.{per_page, pages_for, pages_changed}
 use Rattle.iq_pieces.specs.Faults.{CellsOf, CodesBelow, HasSoundPage}
 use Rattle.iq_numbering.specs.Numbers.{AreDistinct}
 use Rattle.iq_fp.specs.declared.fp.Fp.{Fp}
 use Rattle.iq_fp.specs.Forms.{code_width}
 use Rattle.iq_pieces.specs.Objects.{HoldsObject}
-use Rattle.iq_fp.specs.Stands.{Stands, HaveCells}
+use Rattle.iq_fp.specs.Stands.{Stands}
 
 -- the value of a row, whatever values the column stands for
 abbrev pub IsValueOf : Fp → (ℕ → Option Pages) → ℕ → Value → Type 0

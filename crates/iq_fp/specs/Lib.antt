@@ -1,3 +1,5 @@
 pub mod Forms
 pub mod Stands
 pub mod Calls
+pub mod Scans
+pub mod Laws

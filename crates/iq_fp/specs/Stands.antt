@@ -1,5 +1,5 @@
 -- When the two objects of a column stand for a list of values.
-use Rattle.std.specs.Prelude.{◌≡◌, ◌≢◌, ◌<◌, ◌≤◌, ℕ, ◌+◌, ◌*◌, ◌^◌, List, [], ◌++◌, Option, length, map}
+use Rattle.std.specs.Prelude.{◌≡◌, ◌≢◌, ◌<◌, ◌≤◌, ℕ, ◌+◌, ◌*◌, ◌^◌, List, [], Option, length, map}
 use Rattle.byteorder.specs.Endian.{little_bytes}
 use Rattle.iq_base.specs.declared.sizes.TheConstants.{MOST_PAGES}
 use Rattle.iq_base.specs.declared.values.Kind.{Kind}

@@ -6,10 +6,16 @@
 #![tactic(auto)]
 
 mod appending;
+mod choosing;
 mod distinct;
 mod expanding;
 mod fp;
+mod laws;
+mod one_row;
+mod pairing;
 mod parts;
 mod reading;
+mod scanning;
 
 pub use fp::{Form, Fp, code_bytes, form_of};
+pub use laws::{longest_law, room_law, stands_law};

@@ -7,7 +7,7 @@ use Rattle.iq_base.specs.declared.values.Value.{Value}
 use Rattle.iq_base.specs.declared.values.Value.TheVariants as values
 use Rattle.iq_base.specs.declared.schemas.Column.{Column}
 use Rattle.iq_cells.specs.Orders.{value_order}
-use Rattle.iq_conditions.specs.Truths.{is_null}
+use Rattle.iq_truth.specs.Comparisons.{is_null}
 use Rattle.iq_statements.specs.Rows.{value_named, each_once}
 
 -- GROUPS

@@ -1,4 +1,4 @@
-use Rattle.std.proofs.Common.{◌≡◌, ◌++◌, List, ℕ, ap, ◌∙◌}
+use Rattle.std.proofs.Common.{◌++◌, List, ℕ, ap, ◌∙◌}
 use Rattle.iq_fp.proofs.appending.all_codes.Goals as goal
 
 pub returns-clause-codes : goal.returns-clause-codes

@@ -1,6 +1,5 @@
-use Rattle.std.proofs.Common.{◌≡◌, ◌<◌, ◌≤◌, ◌/◌, length, inr, refl, arith}
+use Rattle.std.proofs.Common.{◌/◌, inr, refl, arith}
 use Rattle.std.proofs.Math.Nat.{div-le_self}
-use Rattle.iq_fp.specs.Calls.{IsRepeat}
 use Rattle.iq_fp.proofs.Growth.{none_stands}
 use Rattle.iq_fp.proofs.appending.distinct_values.Goals as goal
 

@@ -1,4 +1,4 @@
-use Rattle.std.proofs.Common.{◌≡◌, ◌≢◌, ◌<◌, ◌≤◌, ◌+◌, ◌^◌, ℕ, map, length, sym, ap, ◌∙◌, arith}
+use Rattle.std.proofs.Common.{◌≡◌, ◌≢◌, ◌≤◌, ◌^◌, length, sym, ap, ◌∙◌, arith}
 use Rattle.iq_pieces.specs.Codes.{AreBelow}
 use Rattle.iq_fp.specs.Forms.{code_width, bytes_of}
 use Rattle.iq_fp.proofs.Readings.{width_enough}

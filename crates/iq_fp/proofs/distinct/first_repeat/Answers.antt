@@ -1,7 +1,7 @@
-use Rattle.std.proofs.Common.{◌≡◌, ◌<◌, length, arith}
+use Rattle.std.proofs.Common.{◌<◌, length, arith}
 use Rattle.iq_base.specs.Cells.{IsCell}
 use Rattle.iq_cells.specs.Packed.{value_at}
-use Rattle.iq_fp.proofs.Repeats.{keyed_none, keyed_next, keyed_all, repeats}
+use Rattle.iq_fp.proofs.Repeats.{keyed_next, repeats}
 use Rattle.iq_fp.proofs.distinct.first_repeat.Goals as goal
 
 pub loop-i-preserved : goal.loop-i-preserved

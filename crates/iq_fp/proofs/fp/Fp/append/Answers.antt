@@ -1,4 +1,4 @@
-use Rattle.std.proofs.Common.{◌≡◌, ◌<◌, ◌≤◌, ◌+◌, ◌^◌, ℕ, length, refl, sym, ap, ◌∙◌, arith}
+use Rattle.std.proofs.Common.{◌+◌, ℕ, refl, sym, ap, ◌∙◌, arith}
 use Rattle.iq_pages.specs.PageCalls.{view}
 use Rattle.iq_fp.proofs.Growth.{more_below, stands_more, known_still, more_still}
 use Rattle.iq_fp.proofs.fp.Fp.append.Goals as goal

@@ -1,0 +1,4 @@
+pub mod Truths
+pub mod Sides
+pub mod Comparisons
+pub mod Tests
