@@ -1,11 +1,9 @@
 -- What an entry changes, part by part.
-use Rattle.std.specs.Prelude.{ℕ, zero, suc, ◌+◌, max, ◌++◌, Bool, true, false, not, List, [], ◌∷◌, Option, Some, None, nat_eq, drop, filter, map, if◌then◌else◌, unwrap_or}
+use Rattle.std.specs.Prelude.{ℕ, zero, suc, max, ◌++◌, Bool, true, false, not, List, [], ◌∷◌, Option, Some, None, nat_eq, drop, filter, map, if◌then◌else◌, unwrap_or}
 use Rattle.iq_base.specs.Shorts.{Name}
 use Rattle.iq_base.specs.declared.refusals.Refusal.{Refusal}
 use Rattle.iq_ast.specs.declared.statements.Statement.{Statement}
 use Rattle.iq_ast.specs.declared.statements.Statement.TheVariants as statements
-use Rattle.iq_model.specs.declared.answers.NodeVersion.{NodeVersion}
-use Rattle.iq_model.specs.declared.answers.Versions.{Versions}
 use Rattle.iq_model.specs.declared.replies.Reply.{Reply}
 use Rattle.iq_model.specs.declared.replies.Said.{Said}
 use Rattle.iq_model.specs.declared.replies.Said.TheVariants as said
@@ -16,7 +14,6 @@ use Rattle.iq_conditions.specs.Servers.{same_name}
 use Rattle.iq_statements.specs.Tables.{Database}
 use Rattle.iq_statements.specs.Statements.{tables_after, creates}
 use Rattle.iq_replay.specs.State.{State, Session, fresh, begun, locked, done, Standing, idle, lost, running, Run, Work, Save, Node, Report, moved_to, changed_at}
-use Rattle.iq_replay.specs.Nodes.{node_position, floor_of, taken_of}
 use Rattle.iq_replay.specs.Causes.{tells_lost}
 use Rattle.iq_replay.specs.Said.{statement_said, commit_said}
 
@@ -235,20 +232,3 @@ replies_with (suc l) what replies = replies ++ record { line = suc l; said = wha
 
 abbrev pub step_ends : ℕ → Said → State → State
 step_ends l what s = record s { steps = steps_after l s.steps; replies = replies_with l what s.replies }
-
--- what VERSIONS tells
-abbrev pub versions_from : State → ℕ → List Node → List NodeVersion
-versions_from s n [] = []
-versions_from s n (node ∷ nodes) =
-    record {
-      node = n;
-      position = node_position s.latest node;
-      floor = floor_of s n node;
-      taken = taken_of s n node;
-      incarnation = node.incarnation;
-      excluded = node.excluded;
-    }
-    ∷ versions_from s (n + 1) nodes
-
-abbrev pub versions_of : State → Versions
-versions_of s = record { latest = s.latest; horizon = s.base; nodes = versions_from s 0 s.nodes }

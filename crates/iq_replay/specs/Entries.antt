@@ -14,7 +14,8 @@ use Rattle.iq_replay.specs.Commits.{database_of, with_commit}
 use Rattle.iq_replay.specs.Asked.{OfLine, OfStep, OfTurn, OfNode, OfNodeStep, IsSecondary, Counts, IsZeroUnless}
 use Rattle.iq_replay.specs.Causes.{CanRefuse, faults_after}
 use Rattle.iq_replay.specs.Lines.{CanBegin, CanLock, CanTake, CanCommit, CanHalt, CanEndWithout, CanRun, CanRollBack, CanRefuseStep}
-use Rattle.iq_replay.specs.Changes.{statement_of, begins, locks_more, takes_effect, refused, commits, ends, rolls_back, ends_line, works, saves_as, back_to, release_to, work_of, nodes_at, with_lost, restarted, excluded, included, without_report, with_taken, with_base, step_ends, versions_of}
+use Rattle.iq_replay.specs.Said.{versions_of}
+use Rattle.iq_replay.specs.Changes.{statement_of, begins, locks_more, takes_effect, refused, commits, ends, rolls_back, ends_line, works, saves_as, back_to, release_to, work_of, nodes_at, with_lost, restarted, excluded, included, without_report, with_taken, with_base, step_ends}
 
 -- WHERE AN ENTRY IS POSSIBLE
 

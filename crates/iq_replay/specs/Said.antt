@@ -1,14 +1,18 @@
--- What a statement on tables is answered, from the tables before it.
-use Rattle.std.specs.Prelude.{ℕ, Option, Some, None}
+-- What a line is answered: a statement on tables from the tables before it, VERSIONS from the state.
+use Rattle.std.specs.Prelude.{ℕ, ◌+◌, List, [], ◌∷◌, Option, Some, None}
 use Rattle.iq_ast.specs.declared.statements.Statement.{Statement}
 use Rattle.iq_ast.specs.declared.statements.Statement.TheVariants as statements
 use Rattle.iq_ast.specs.declared.statements.Write.{Write}
 use Rattle.iq_ast.specs.declared.statements.Write.TheVariants as writes
+use Rattle.iq_model.specs.declared.answers.NodeVersion.{NodeVersion}
+use Rattle.iq_model.specs.declared.answers.Versions.{Versions}
 use Rattle.iq_model.specs.declared.replies.Said.{Said}
 use Rattle.iq_model.specs.declared.replies.Said.TheVariants as said
 use Rattle.iq_statements.specs.Tables.{Database}
 use Rattle.iq_statements.specs.Answers.{answer}
 use Rattle.iq_statements.specs.Effects.{count}
+use Rattle.iq_replay.specs.State.{State, Node}
+use Rattle.iq_replay.specs.Nodes.{node_position, floor_of, taken_of}
 
 -- a write tells its count; the number of its commit is filled in at the commit, where the line has one of its own
 abbrev pub write_said : Write → Database → Said
@@ -64,3 +68,20 @@ numbered c (said.Refused cause) = said.Refused cause
 abbrev pub commit_said : ℕ → Option Said → Said
 commit_said c None = said.Committed c
 commit_said c (Some what) = numbered c what
+
+-- what VERSIONS tells
+abbrev pub versions_from : State → ℕ → List Node → List NodeVersion
+versions_from s n [] = []
+versions_from s n (node ∷ nodes) =
+    record {
+      node = n;
+      position = node_position s.latest node;
+      floor = floor_of s n node;
+      taken = taken_of s n node;
+      incarnation = node.incarnation;
+      excluded = node.excluded;
+    }
+    ∷ versions_from s (n + 1) nodes
+
+abbrev pub versions_of : State → Versions
+versions_of s = record { latest = s.latest; horizon = s.base; nodes = versions_from s 0 s.nodes }
