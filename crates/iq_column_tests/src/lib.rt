@@ -5,4 +5,8 @@
 #[cfg(test)]
 mod bitmaps;
 #[cfg(test)]
+mod calls;
+#[cfg(test)]
+mod lists;
+#[cfg(test)]
 mod tables;

@@ -1,169 +1,131 @@
-use iq_base::{Column, Kind, Listed, Name, Row, Schema, Text, Value, row_limit};
-use iq_pages::{MemoryPages, PageFault, PageSink};
-use iq_table::{Table, are_rows_of};
+//! Tables beside plain lists of rows.
+use crate::lists::{append, assert_rows, bits, columns, made, numbered, rows};
+use iq_base::{Column, Kind, Value};
+use iq_cells::Rows;
+use iq_pages::MemoryPages;
+use iq_table::{TableFault, limit_of};
 use std::alloc::Global;
 use std::process::Abort;
 use std::test::Fail;
 
-// Pages of 201, 144 and 112 cells.
-const KINDS: [Kind; 3] = [Kind::Int, Kind::Varchar(5), Kind::Big];
+// Rows of several statements: an empty one, one that ends with a page of codes (1,008 rows), one that ends with a page of existence
+// (8,064 rows), and one row behind it. How many values the columns have at each end: 256 and 257 among them.
+const ENDS: [usize; 8] = [0, 256, 257, 1_008, 1_009, 8_064, 8_065, 9_000];
 
-const TEXTS: [&str; 4] = ["", "a", "né", "abcde"];
-
-fn table(alloc: Global) -> Result<Table, Fail> {
-    let mut columns = Listed::new(alloc);
-    for kind in KINDS {
-        let name = Name::of("x").ok_or("too long")?;
-        columns.push(Column {
-            name,
-            kind,
-            null: true,
-        })?;
+#[test]
+fn rows_that_were_put_come_back(rt: HostRuntime) -> Result<(), Fail> {
+    let columns = columns(rt.alloc())?;
+    let mut store = MemoryPages::new(rt.alloc(), Vec::new(rt.alloc()));
+    let mut table = made(&rt, rt.alloc(), &columns, &mut store)?;
+    let mut from = 0;
+    for end in ENDS {
+        let more = rows(&rt, rt.alloc(), &columns, from, end)?;
+        append(&rt, rt.alloc(), &mut table, &mut store, &more).map_err(|_| "append")?;
+        from = end;
+        assert_rows(
+            &rt,
+            rt.alloc(),
+            &table,
+            &mut store,
+            &numbered(rt.alloc(), end)?,
+        )?;
     }
-    let name = Name::of("t").ok_or("too long")?;
-    Ok(Table::new(name, Schema { columns }))
+    assert_eq!(rt; table.parts.slots, 9_000);
+    let mut forms = Vec::new(rt.alloc());
+    for part in table.parts.columns.as_slice() {
+        forms.push((part.form, part.distinct))?;
+    }
+    // 9,000 numbers; four texts and NULL; 300 numbers and NULL.
+    assert!(rt; forms.as_slice() == [(2, 9_000), (1, 5), (2, 301)].as_slice());
+    Ok(())
 }
 
-// What row i has in a column, made of its number alone.
-fn value(i: usize, c: usize) -> Result<Value, Fail> {
-    if i % 5 == c {
-        return Ok(Value::Null);
-    }
-    if c == 1 {
-        return Ok(Value::Text(Text::of(TEXTS[i % 4]).ok_or("too long")?));
-    }
-    let number = (i % 1000) as i64;
-    Ok(Value::Int(if c == 0 {
-        number - 500
-    } else {
-        number * -5_000_000_000
-    }))
-}
-
-fn rows(alloc: Global, from: usize, to: usize) -> Result<Vec<Row>, Fail> {
-    let mut rows = Vec::new(alloc);
-    for i in from..to {
-        let mut row = Listed::new(alloc);
-        for c in 0..3 {
-            row.push(value(i, c)?)?;
+#[test]
+fn removed_rows_are_gone_and_their_slots_are_kept(rt: HostRuntime) -> Result<(), Fail> {
+    let columns = columns(rt.alloc())?;
+    let mut store = MemoryPages::new(rt.alloc(), Vec::new(rt.alloc()));
+    let mut table = made(&rt, rt.alloc(), &columns, &mut store)?;
+    let first = rows(&rt, rt.alloc(), &columns, 0, 8_200)?;
+    append(&rt, rt.alloc(), &mut table, &mut store, &first).map_err(|_| "append")?;
+    let mut alive = numbered(rt.alloc(), 8_200)?;
+    // None, some of both pages, one of the second, and all that are left.
+    for step in 0..4 {
+        let mut found = Vec::new(rt.alloc());
+        let mut count = 0;
+        for (row, on) in alive.iter_mut().enumerate() {
+            let hit = *on
+                && match step {
+                    0 => false,
+                    1 => row % 3 == 0,
+                    2 => row == 8_101,
+                    _ => true,
+                };
+            if hit {
+                *on = false;
+                count += 1;
+            }
+            found.push(hit)?;
         }
-        rows.push(row)?;
+        let found = bits(&rt, rt.alloc(), &found)?;
+        assert!(rt; table.place < 64 && found.len() == table.parts.slots);
+        let gone = table.delete_rows(rt.alloc(), &mut store, &found);
+        assert_eq!(rt; gone, Ok(count), "step {step}");
+        assert_rows(&rt, rt.alloc(), &table, &mut store, &alive)?;
     }
+    let more = rows(&rt, rt.alloc(), &columns, 8_200, 8_210)?;
+    append(&rt, rt.alloc(), &mut table, &mut store, &more).map_err(|_| "append")?;
+    for _ in 0..10 {
+        alive.push(true)?;
+    }
+    assert_rows(&rt, rt.alloc(), &table, &mut store, &alive)
+}
+
+// A table is full exactly at its limit: numbers alone, numbers with a text of 105, 136, 194 and 195 bytes.
+const LIMITS: [(Kind, u32); 6] = [
+    (Kind::Big, 2_097_152),
+    (Kind::Varchar(105), 262_144),
+    (Kind::Varchar(106), 254_016),
+    (Kind::Varchar(136), 254_016),
+    (Kind::Varchar(194), 190_512),
+    (Kind::Varchar(255), 127_008),
+];
+
+fn row_of_nulls(rt: &impl Abort, alloc: Global, columns: &[Column]) -> Result<Rows, Fail> {
+    let mut rows = Rows::empty(alloc, columns)?;
+    assert!(rt; rows.len() < 9 && columns.len() < 33);
+    rows.push_row(columns, &[Value::Null, Value::Null, Value::Null])
+        .map_err(|_| "no row of the columns")?;
     Ok(rows)
 }
 
-fn append<S: PageSink>(
-    rt: &impl Abort,
-    table: &mut Table,
-    sink: &mut S,
-    rows: &[Row],
-) -> Result<(), PageFault> {
-    let columns = table.schema.columns.as_slice();
-    assert!(rt; columns.len() <= 32 && are_rows_of(columns, rows));
-    let limit = row_limit(columns) as usize;
-    assert!(rt; rows.len() <= limit && table.slots as usize <= limit - rows.len());
-    table.append_rows(2, sink, rows)
-}
-
-// A table that is made and appended to in three steps, with all that is read at the end of it.
-fn run<S: PageSink>(
-    rt: &impl Abort,
-    alloc: Global,
-    table: &mut Table,
-    sink: &mut S,
-    all: &[Row],
-) -> Result<Vec<Listed<Value>>, PageFault> {
-    assert!(rt; table.schema.columns.len() == 3);
-    if table.slots == 0 {
-        table.create(2, sink)?;
-    }
-    for end in [150, 201, 450] {
-        let from = table.slots as usize;
-        if from < end {
-            assert!(rt; end <= all.len());
-            append(rt, table, sink, &all[from..end])?;
-        }
-    }
-    let columns = [2, 0, 1];
-    assert!(rt; table.schema.columns.len() == 3);
-    table.read_columns(alloc, 2, sink, &columns)
-}
-
-fn assert_columns(
-    rt: &impl Abort,
-    read: &[Listed<Value>],
-    columns: [usize; 3],
-    count: usize,
-) -> Result<(), Fail> {
-    assert_eq!(rt; read.len(), columns.len());
-    for (column, c) in read.iter().zip(columns.iter()) {
-        assert_eq!(rt; column.len(), count);
-        for (i, read) in column.as_slice().iter().enumerate() {
-            assert_eq!(rt; *read, value(i, *c)?, "row {i}, column {c}");
-        }
-    }
-    Ok(())
-}
-
 #[test]
-fn rows_come_back_across_pages(rt: HostRuntime) -> Result<(), Fail> {
-    let mut table = table(rt.alloc())?;
-    let all = rows(rt.alloc(), 0, 450)?;
-    let mut store = MemoryPages::new(rt.alloc(), Vec::new(rt.alloc()));
-    let read = run(&rt, rt.alloc(), &mut table, &mut store, &all)?;
-    assert_columns(&rt, &read, [2, 0, 1], 450)?;
-    assert!(rt; table.schema.columns.len() == 3);
-    let column = table.read_column(rt.alloc(), 2, &mut store, 1)?;
-    assert_eq!(rt; column.len(), 450);
-    for (i, read) in column.iter().enumerate() {
-        assert_eq!(rt; *read, value(i, 1)?, "row {i}");
-    }
-    Ok(())
-}
-
-// 3 objects are made. The first append pushes 1, 2 and 2 pages. The second reads and sets the last page of each and pushes
-// none. The third does the same but for the first column, whose page is full, and pushes 2, 2 and 3. The reads are of 3, 4
-// and 5 pages.
-const CALLS: u64 = 3 + 5 + 6 + 11 + 12;
-
-#[test]
-fn each_page_is_touched_once_and_a_failed_call_keeps_the_rows(rt: HostRuntime) -> Result<(), Fail> {
-    let all = rows(rt.alloc(), 0, 450)?;
-    for call in 1..CALLS + 2 {
-        let mut table = table(rt.alloc())?;
-        let mut store = MemoryPages::new(rt.alloc(), vec![in rt.alloc(); call]?);
-        match run(&rt, rt.alloc(), &mut table, &mut store, &all) {
-            Err(PageFault::Failed { .. }) => {
-                assert!(rt; call <= CALLS);
-                let before = table.slots as usize;
-                let columns = [2, 0, 1];
-                assert!(rt; table.schema.columns.len() == 3);
-                let read = table.read_columns(rt.alloc(), 2, &mut store, &columns)?;
-                assert_columns(&rt, &read, [2, 0, 1], before)?;
-                let read = run(&rt, rt.alloc(), &mut table, &mut store, &all)?;
-                assert_columns(&rt, &read, [2, 0, 1], 450)?;
-            }
-            Ok(_) => assert_eq!(rt; call, CALLS + 1),
-            Err(fault) => panic!(rt; "{fault:?}"),
+fn a_table_is_full_at_its_limit(rt: HostRuntime) -> Result<(), Fail> {
+    let mut columns = columns(rt.alloc())?;
+    for (kind, limit) in LIMITS {
+        for column in columns.iter_mut() {
+            column.kind = Kind::Int;
+            column.null = true;
         }
-    }
-    Ok(())
-}
-
-#[test]
-fn an_object_without_the_page_is_named(rt: HostRuntime) -> Result<(), Fail> {
-    let mut table = table(rt.alloc())?;
-    table.slots = 150;
-    let mut store = MemoryPages::new(rt.alloc(), Vec::new(rt.alloc()));
-    let more = rows(rt.alloc(), 150, 151)?;
-    match append(&rt, &mut table, &mut store, &more) {
-        Err(PageFault::BadPage { object, page }) => assert_eq!(rt; (object, page), (513, 0)),
-        _ => panic!(rt; "appended"),
-    }
-    assert!(rt; table.schema.columns.len() == 3);
-    match table.read_column(rt.alloc(), 2, &mut store, 2) {
-        Err(PageFault::BadPage { object, page }) => assert_eq!(rt; (object, page), (517, 0)),
-        _ => panic!(rt; "read"),
+        if let Some(column) = columns.last_mut() {
+            column.kind = kind;
+        }
+        let mut store = MemoryPages::new(rt.alloc(), Vec::new(rt.alloc()));
+        let mut table = made(&rt, rt.alloc(), &columns, &mut store)?;
+        assert_eq!(rt; limit_of(&table.parts), limit);
+        table.parts.slots = limit;
+        let one = row_of_nulls(&rt, rt.alloc(), &columns)?;
+        assert_eq!(rt;
+            append(&rt, rt.alloc(), &mut table, &mut store, &one),
+            Err(TableFault::TableFull { limit })
+        );
+        // A row less, and it is the pages that are missing.
+        table.parts.slots = limit - 1;
+        assert!(rt;
+            matches!(
+                append(&rt, rt.alloc(), &mut table, &mut store, &one),
+                Err(TableFault::BadPage { .. })
+            )
+        );
     }
     Ok(())
 }
