@@ -4,3 +4,9 @@
 
 #[cfg(test)]
 mod bitmaps;
+#[cfg(test)]
+mod calls;
+#[cfg(test)]
+mod lists;
+#[cfg(test)]
+mod tables;

@@ -1,5 +1,5 @@
 -- A table whose objects were made stands for no rows.
-use Rattle.std.proofs.Common.{◌≡◌, ◌≢◌, ◌<◌, ◌≤◌, ℕ, ◌+◌, ◌*◌, ◌/◌, inl, inr, [], Option, Some, None, IsSome, length, refl, sym, ap, ◌∙◌, arith}
+use Rattle.std.proofs.Common.{◌≡◌, ◌≢◌, ◌<◌, ◌≤◌, ℕ, ◌+◌, ◌*◌, ◌/◌, inl, inr, true, List, [], map, slice_index_or, Option, Some, None, IsSome, length, refl, sym, ap, ◌∙◌, arith}
 use Rattle.std.specs.Prelude.{◌⊎◌}
 use Rattle.std.specs.Option.{option_map}
 use Rattle.std.proofs.lemmas.Bool.{cases_lt}
@@ -15,9 +15,13 @@ use Rattle.iq_fp.specs.declared.fp.Fp.{Fp}
 use Rattle.iq_fp.specs.Forms.{code_width}
 use Rattle.iq_fp.specs.Stands.{Stands}
 use Rattle.iq_table.specs.declared.table.Table.{Table}
-use Rattle.iq_table.specs.Places.{existence_of, codes_of, values_of, part_at, fp_at}
+use Rattle.iq_table.specs.Places.{new_part, existence_of, codes_of, values_of, part_at, fp_at}
 use Rattle.iq_table.specs.Table.{TableStands}
-use Rattle.iq_table.specs.Calls.{IsUnused, TellsObjects, KeepsOtherTables, HasMakeCause}
+use Rattle.std.proofs.lemmas.List.{length-map, get_or-map}
+use Rattle.iq_base.specs.declared.values.Kind.TheVariants.{Int}
+use Rattle.iq_base.specs.declared.schemas.Column.{Column}
+use Rattle.iq_base.specs.declared.descriptors.ColumnPart.{ColumnPart}
+use Rattle.iq_table.specs.Calls.{new_parts, IsUnused, TellsObjects, KeepsOtherTables, HasMakeCause}
 
 -- the objects from one number on up to another have no pages, where they are told, and each other is as before
 pub record AreMade (first behind : ℕ) (before after : Seen) : Type 0 where
@@ -121,3 +125,15 @@ pub make_cause : (table : Table) (a b c : Seen) (object : ℕ) (fault : PageFaul
 make_cause table a b c object (Failed x y) from to same later h = rose_since _ _ _ _ _ later h
 make_cause table a b c object (BadPage named page) from to same later h = ((omega (arith, h.0), omega (arith, h.0)), ap a.told h.0 ∙ sym same ∙ h.1)
 make_cause table a b c object NoMemory from to same later h = tt
+
+-- a table that is new has no rows
+pub unused_new : (name : List ℕ) (columns : List Column) → IsUnused (new_parts name columns)
+unused_new name columns =
+    let none : Column = record { name = []; kind = Int; null = true } in
+    let at : (c : ℕ) → c < length (map new_part columns) → part_at c (map new_part columns) ≡ new_part (slice_index_or columns c none) =
+    λ c h. get_or-map new_part columns c none (new_part none) (omega (arith, length-map columns new_part)) in
+    record {
+      slots = refl;
+      distinct = λ c h. ap (λ (part : ColumnPart). part.distinct) (at c h);
+      forms = λ c h. ap (λ (part : ColumnPart). part.form) (at c h);
+    }

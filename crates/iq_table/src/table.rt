@@ -25,7 +25,8 @@ pub struct Table {
 impl Table {
     /// A table without rows.
     pub fn new(alloc: Global, place: u32, name: Name, columns: &[Column]) -> Result<Table, NoMemory>
-        ensures { IfOk result (λ table. table ≡ record { place = place; parts = new_parts name columns.now }) }
+        ensures table { IfOk result (λ table. table ≡ record { place = place; parts = new_parts name columns.now }) }
+        ensures unused { IfOk result (λ table. IsUnused table.parts) }
     {
         let mut parts = Vec::with_capacity(alloc, columns.len())?;
         for column in columns {
