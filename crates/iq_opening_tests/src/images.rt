@@ -47,7 +47,7 @@ pub fn root(blocks: &mut [Block], generation: u8, format: u8, count: u32, heads:
     poke(blocks, body, 16, &[generation]);
     poke(blocks, body, 24, &[format]);
     number(blocks, body, 28, count);
-    number(blocks, body, 32, heads.len() as u32 % 65);
+    number(blocks, body, 32, (heads.len() % 65) as u32);
     for (k, head) in heads.iter().enumerate() {
         number(blocks, body, 36 + 4 * (k % 64), *head);
     }

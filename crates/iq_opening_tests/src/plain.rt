@@ -244,12 +244,7 @@ fn object_from(walk: &mut Walk<'_>, head: u32, text: &[u8], i: usize) -> Result<
     } else {
         number(walk.blocks, head, 16 + 4 * (i / 1008 % 4).saturating_sub(1))
     };
-    object(
-        walk,
-        holder,
-        long(text, i) as u32,
-        long(text, i.saturating_add(4)) as u32,
-    )
+    object(walk, holder, word(text, i), word(text, i.saturating_add(4)))
 }
 
 /// A byte of a text, and 0 past the end.
@@ -267,6 +262,11 @@ fn long(text: &[u8], i: usize) -> u64 {
         n |= u64::from(at(text, i.saturating_add(k))) << (8 * k as u32 % 32);
     }
     n
+}
+
+/// The same as 4 bytes.
+fn word(text: &[u8], i: usize) -> u32 {
+    (long(text, i) % 4_294_967_296) as u32
 }
 
 /// Whether a name stands at a place.
@@ -329,7 +329,7 @@ fn is_table(text: &[u8], before: &[u8]) -> bool {
         return false;
     }
     let end = 57 + 55 * columns + 62 * indexes;
-    if pieces(end as u64, 1008) * 1008 != text.len() as u64 {
+    if pieces(end as u64, 1008).saturating_mul(1008) != text.len() as u64 {
         return false;
     }
     for i in end..text.len() {

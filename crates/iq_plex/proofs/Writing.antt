@@ -34,7 +34,7 @@ use Rattle.iq_table.specs.declared.faults.TableFault.TheVariants as faults
 use Rattle.iq_table.specs.Places.{as_column, new_part, part_at, part_kinds}
 use Rattle.iq_table.specs.Limits.{as_columns, has_low_fast, limit_of}
 use Rattle.iq_table.specs.Table.{TableStands, StandsForMore, GivesAlive, GivesRows, values_at}
-use Rattle.iq_table.specs.Calls.{new_parts, IsUnused, HasGrown, IsPartGrown, HasAppendCause}
+use Rattle.iq_table.specs.Calls.{new_parts, HasGrown, IsPartGrown, HasAppendCause}
 use Rattle.iq_model.specs.Outs.{out_of, outs_of}
 use Rattle.iq_model.specs.Tables.{Slot, Table, Database, content, with_rows, same_name, table_of, replaced}
 use Rattle.iq_model.specs.Statements.{first_refusal, found_if, IsColumnItem, select_checks, room_check, inserted, first_bad_row, first_no_column, column_place, refused_at, bad_row, value_or_null, value_at, projected, rows_of, rows_at, answer}
@@ -107,14 +107,6 @@ kinds_laid columns table laid = ap kinds_of (sym laid.columns_are) ∙ kinds_as 
     kinds_as (part ∷ parts) = ap (λ (kinds : List Kind). part.kind ∷ kinds) (kinds_as parts)
 
 -- A TABLE WITHOUT ROWS
-
-part_unused : (columns : List Column) (c : ℕ) → ((part_at c (map new_part columns)).distinct ≡ 0) × ((part_at c (map new_part columns)).form ≡ 1)
-part_unused [] c = (refl, refl)
-part_unused (column ∷ columns) zero = (refl, refl)
-part_unused (column ∷ columns) (suc c) = part_unused columns c
-
-pub new_unused : (name : List ℕ) (columns : List Column) → IsUnused (new_parts name columns)
-new_unused name columns = record { slots = refl; distinct = λ c h. (part_unused columns c).0; forms = λ c h. (part_unused columns c).1 }
 
 columns_new : (columns : List Column) → as_columns (map new_part columns) ≡ columns
 columns_new [] = refl

@@ -113,7 +113,11 @@ fn rows_of_columns_stand_as_rows_of_values(rt: HostRuntime) -> Result<(), Fail> 
     assert_eq!(rt; texts.len(), 2);
     let rows = Rows::of(vec![in alloc; numbers, texts]?, 2);
     let want = "@7 rows 2\n  NULL,'a''b'\n  -9223372036854775808,''\n";
-    says(&rt, Said::Answer(Answer::Rows(AnswerRows::of_columns(rows))), want);
+    says(
+        &rt,
+        Said::Answer(Answer::Rows(AnswerRows::of_columns(rows))),
+        want,
+    );
     Ok(())
 }
 
