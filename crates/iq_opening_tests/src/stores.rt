@@ -88,7 +88,9 @@ fn each_call_that_fails_is_told_and_each_block_is_read_once(rt: HostRuntime) -> 
     let alloc = rt.alloc();
     // Two counts, the four blocks of both slots but the gate of the bad one, and the 70 reached blocks.
     for k in 1..200 {
-        let mut disk = MemoryDevice::new(two_tables(alloc)?, [k].to_vec(alloc)?);
+        let blocks = two_tables(alloc)?;
+        assert!(rt; blocks.len() <= 80);
+        let mut disk = MemoryDevice::new(blocks, [k].to_vec(alloc)?);
         let fault = open(alloc, &mut disk).err();
         let expected = if k <= 75 {
             Some(OpenFault::StoreFault {
