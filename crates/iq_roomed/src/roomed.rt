@@ -1,6 +1,6 @@
 //! A list with room that was made before.
 ghost use Rattle.std.specs.Prelude.{◌≡◌, ◌≤◌, ◌<◌, ◌+◌, ◌↔◌, [], ◌∷◌, ◌++◌, length, take, slice_set, IsTrue, IfOk, OnOk, OnErr};
-ghost use Rattle.iq_roomed.specs.Rooms.{Becomes, HasSameItems};
+ghost use Rattle.iq_roomed.specs.Rooms.{Becomes};
 
 use iq_base::NoMemory;
 use std::alloc::Global;
@@ -75,7 +75,7 @@ impl<T> Roomed<T> {
     /// Makes room for `n` items more. The list is as before where memory is wanting, which is so only where the room is too small.
     pub fn reserve(&mut self, n: usize) -> Result<(), NoMemory>
         ensures ok { OnOk result (n ≤ self.new.room) }
-        ensures same { HasSameItems self.old self.new }
+        ensures same { Becomes self.old self.old.items self.new }
         ensures err { OnErr result (self.new ≡ self.old) }
         ensures cause { OnErr result (self.old.room < n) }
     {
@@ -88,14 +88,14 @@ impl<T: Drop> Roomed<T> {
     /// Puts an item at the end, into room that was made before. It takes no memory.
     pub fn push(&mut self, item: T)
         requires { 0 < self.old.room }
-        ensures { Becomes self.old (self.old.items ++ item ∷ []) 1 self.new }
+        ensures { Becomes self.old (self.old.items ++ item ∷ []) self.new }
     {
         self.items.push(item).unwrap();
     }
 
     /// Keeps the first `n` items. It takes no memory.
     pub fn truncate(&mut self, n: usize)
-        ensures { Becomes self.old (take n self.old.items) 0 self.new }
+        ensures { Becomes self.old (take n self.old.items) self.new }
     {
         self.items.truncate(n);
     }
@@ -103,7 +103,7 @@ impl<T: Drop> Roomed<T> {
     /// Puts an item in place of the one at a place.
     pub fn set(&mut self, at: usize, item: T)
         requires { at < length self.old.items }
-        ensures { Becomes self.old (slice_set self.old.items at item) 0 self.new }
+        ensures { Becomes self.old (slice_set self.old.items at item) self.new }
     {
         self.items[at] = item;
     }
