@@ -7,7 +7,9 @@
 #![tactic(auto)]
 
 mod marks;
+mod savepoints;
 mod txn;
 
 pub use marks::Mark;
+pub use savepoints::{MOST_SAVEPOINTS, Savepoints};
 pub use txn::Txn;
