@@ -66,6 +66,20 @@ impl LockTable {
         })
     }
 
+    /// How many sessions there are.
+    pub fn sessions(&self) -> u32
+        ensures { result ≡ length self.now.held }
+    {
+        self.held.len() as u32
+    }
+
+    /// How many more names can be written without memory.
+    pub fn room(&self) -> usize
+        ensures { result ≡ self.now.room }
+    {
+        self.wrote.room()
+    }
+
     /// The names that a session holds, in the order in which it got them.
     pub fn held(&self, s: u32) -> &[Name]
         requires { s < length self.now.held }
