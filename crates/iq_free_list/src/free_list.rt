@@ -91,6 +91,17 @@ impl FreeList {
         self.len += 1;
     }
 
+    /// Makes some blocks free, one after the other. It takes no memory.
+    pub fn give_all(&mut self, blocks: &[u32])
+        requires { All (λ b. b < self.old.count) blocks.now }
+        ensures given { self.new.blocks ≡ put_all blocks.now self.old.blocks }
+        ensures count { self.new.count ≡ self.old.count }
+    {
+        for block in blocks {
+            self.give(*block);
+        }
+    }
+
     /// How many blocks are free.
     pub fn len(&self) -> u32
         ensures value { result ≡ length self.now.blocks }

@@ -1,5 +1,5 @@
 //! A list with room that was made before.
-ghost use Rattle.std.specs.Prelude.{◌≡◌, ◌≤◌, ◌<◌, ◌+◌, ◌↔◌, [], ◌∷◌, ◌++◌, length, take, slice_set, IsTrue, IfOk, OnOk, OnErr};
+ghost use Rattle.std.specs.Prelude.{◌≡◌, ◌≤◌, ◌<◌, ◌+◌, ◌↔◌, [], ◌∷◌, ◌++◌, length, take, drop, slice_set, IsTrue, IfOk, OnOk, OnErr};
 ghost use Rattle.iq_roomed.specs.Rooms.{Becomes};
 
 use iq_base::NoMemory;
@@ -98,6 +98,16 @@ impl<T: Drop> Roomed<T> {
         ensures { Becomes self.old (take n self.old.items) self.new }
     {
         self.items.truncate(n);
+    }
+
+    /// Leaves out the first `n` items. It takes no memory, and moves the others.
+    pub fn drop_front(&mut self, n: usize)
+        requires { n ≤ length self.old.items }
+        ensures { Becomes self.old (drop n self.old.items) self.new }
+    {
+        let left = self.items.len() - n;
+        self.items.rotate_left(n);
+        self.items.truncate(left);
     }
 
     /// Puts an item in place of the one at a place.

@@ -1,6 +1,5 @@
 //! A running transaction's blocks.
 ghost use Rattle.std.specs.Prelude.{◌≡◌, ◌≤◌, ◌<◌, ◌++◌, ◌∷◌, [], length, take, drop, min, slice_set, All, ◌+◌, OnOk};
-ghost use Rattle.iq_free_list.specs.FreeList.{put_all};
 ghost use Rattle.iq_txn.specs.Txns.{TxnState, IsBegun, IsMarked, IsBack, GivesHome, TakesBlocks, WastesBlock, DropsBlock, HasSameBlocks, HasRoom, AreWithin, with_heads};
 
 use crate::marks::Mark;
@@ -167,22 +166,11 @@ impl Txn {
         let own = self.private.as_slice();
         if mark.private < own.len() {
             let (_, since) = own.split_at(mark.private);
-            give_all(home, since);
+            home.give_all(since);
         }
         self.private.truncate(mark.private);
         self.wasted.truncate(mark.wasted);
         self.dropped.truncate(mark.dropped);
         self.heads = mark.heads.again();
-    }
-}
-
-/// Gives blocks to a list of free ones.
-fn give_all(home: &mut FreeList, blocks: &[u32])
-    requires { All (λ b. b < home.old.count) blocks.now }
-    ensures given { home.new.blocks ≡ put_all blocks.now home.old.blocks }
-    ensures count { home.new.count ≡ home.old.count }
-{
-    for block in blocks {
-        home.give(*block);
     }
 }

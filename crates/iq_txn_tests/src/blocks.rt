@@ -56,6 +56,7 @@ fn what_was_taken_since_a_mark_goes_home(rt: HostRuntime) -> Result<(), Fail> {
         (txn.wasted(), txn.dropped()),
         ([5].as_slice(), [6].as_slice())
     );
+    assert!(rt; txn.private().iter().all(|block| *block < free.count()));
     txn.back(&mark, &mut free);
     assert_eq!(rt; txn.private(), [5, 7].as_slice());
     assert_eq!(rt; txn.heads().as_slice(), [4, 6, 8].as_slice());
