@@ -1,5 +1,6 @@
 //! A running transaction's blocks.
 ghost use Rattle.std.specs.Prelude.{◌≡◌, ◌≤◌, ◌<◌, ◌++◌, ◌∷◌, [], length, take, drop, min, slice_set, All, ◌+◌, OnOk};
+ghost use Rattle.iq_free_list.specs.FreeList.{put_all};
 ghost use Rattle.iq_txn.specs.Txns.{TxnState, IsBegun, IsMarked, IsBack, GivesHome, TakesBlocks, WastesBlock, DropsBlock, HasSameBlocks, HasRoom, AreWithin, with_heads};
 
 use crate::marks::Mark;
@@ -172,5 +173,18 @@ impl Txn {
         self.wasted.truncate(mark.wasted);
         self.dropped.truncate(mark.dropped);
         self.heads = mark.heads.again();
+    }
+
+    /// Ends it as a commit: what it wasted goes home, and its heads and what it dropped are handed out. It takes no memory.
+    pub fn into_version(self, home: &mut FreeList) -> (Addresses, Roomed<u32>)
+        requires { All (λ b. b < home.old.count) self.wasted.items }
+        ensures heads { result.0 ≡ self.heads }
+        ensures dropped { result.1 ≡ self.dropped }
+        ensures given { home.new.blocks ≡ put_all self.wasted.items home.old.blocks }
+        ensures count { home.new.count ≡ home.old.count }
+    {
+        home.give_all(self.wasted.as_slice());
+        let Txn { heads, dropped, .. } = self;
+        (heads, dropped)
     }
 }

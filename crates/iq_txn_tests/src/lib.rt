@@ -1,5 +1,5 @@
-//! Tests of what transactions have in memory, by the public calls of `iq_roomed`, `iq_locks` and `iq_txn`: names that are locked,
-//! blocks that are taken and go home, savepoints.
+//! Tests of what transactions have in memory, by the public calls of `iq_roomed`, `iq_locks`, `iq_txn` and `iq_version_log`: names
+//! that are locked, blocks that are taken and go home, savepoints, versions that are kept.
 #![tactic(auto)]
 
 #[cfg(test)]
@@ -8,3 +8,5 @@ mod blocks;
 mod locks;
 #[cfg(test)]
 mod rooms;
+#[cfg(test)]
+mod versions;
