@@ -1,11 +1,10 @@
-use Rattle.std.proofs.Common.{◌≡◌, ◌<◌, ◌≤◌, ◌+◌, ◌/◌, ℕ, [], length, ap, sym, zero-add, arith}
+use Rattle.std.proofs.Common.{◌≡◌, ◌<◌, ◌/◌, ℕ, [], length, ap, arith}
 use Rattle.std.proofs.lemmas.Grind.{rows}
-use Rattle.std.proofs.lemmas.Result.{on_ok_weaker}
-use Rattle.iq_pages.specs.Pages.{CountsMore}
-use Rattle.iq_pages.proofs.PageLaws.{counts_on}
-use Rattle.iq_pieces.specs.Counts.{per_page, pages_changed}
+use Rattle.std.proofs.lemmas.Result.{on_ok_weaker, IfErr-weaker}
+use Rattle.iq_pages.specs.PageCalls.{view}
+use Rattle.iq_pieces.specs.Counts.{per_page}
 use Rattle.iq_pieces.proofs.PagesFilled.{holds_anew, nothing_behind}
-use Rattle.iq_pieces.proofs.Counting.{counted_behind}
+use Rattle.iq_pieces.proofs.Counting.{counted_behind, own_cause, anew_dark}
 use Rattle.iq_pieces.proofs.appending.rewrite.Goals as goal
 
 pub returns-then-count-eq0-clause-ok : goal.returns-then-count-eq0-clause-ok
@@ -32,3 +31,9 @@ returns-clause-written g c =
     on_ok_weaker c.fill_pages.result
     (counted_behind _ _ _ _ c.in_ok-new_object.ensures.writes)
     c.fill_pages.ensures.written
+
+pub returns-clause-cause : goal.returns-clause-cause
+returns-clause-cause g c =
+    IfErr-weaker c.fill_pages.result _ _
+    (λ fault. own_cause c.args.object (view g.S.PageSource c.args.sink.now) (view g.S.PageSource c.new_object.new.self) (view g.S.PageSource c.fill_pages.new.sink) fault (anew_dark _ _ c.in_ok-new_object.ensures.done.told_here) c.new_object.ensures.later)
+    c.fill_pages.ensures.cause
