@@ -9,10 +9,9 @@ ghost use Rattle.iq_numbering.specs.Numbers.{AreDistinct};
 ghost use Rattle.iq_pieces.specs.Codes.{AreBelow};
 ghost use Rattle.iq_pieces.specs.Counts.{per_page, pages_for, pages_changed, CountsUpTo, KeepsOthers, OnlyReads};
 ghost use Rattle.iq_pieces.specs.Objects.{HoldsObject};
-ghost use Rattle.iq_pieces.specs.Faults.{HasPageCause};
 ghost use Rattle.iq_fp.specs.Forms.{code_width, bytes_of};
 ghost use Rattle.iq_fp.specs.Stands.{HaveCells, HasRoom};
-ghost use Rattle.iq_fp.specs.Calls.{AreKnown, StandsForMore, SameObjects, IsLonger, KeepsOtherObjects, IsGrown, GoOn, WritesParts, HasReadCause, HasAppendCause, pages_read, pages_written};
+ghost use Rattle.iq_fp.specs.Calls.{AreKnown, StandsForMore, SameObjects, IsLonger, KeepsOtherObjects, IsGrown, GoOn, WritesParts, HasReadCause, HasPartsCause, HasAppendCause, pages_read, pages_written};
 
 use crate::distinct::first_repeat;
 use crate::fp::{Fp, code_bytes, form_of};
@@ -105,7 +104,7 @@ fn write_parts<S: PageSink>(
     ensures others { KeepsOtherObjects old.now (view S.PageSource sink.old) (view S.PageSource sink.new) }
     ensures reads { CountsUpTo (max 1 (pages_for (code_width old.now.distinct) old.now.slots)) (S.reads sink.old) (S.reads sink.new) }
     ensures later { S.faults sink.old ≤ S.faults sink.new }
-    ensures cause { IfErr result (HasReadCause old.now (view S.PageSource sink.old) (view S.PageSource sink.new)) }
+    ensures cause { IfErr result (HasPartsCause old.now (view S.PageSource sink.old) (view S.PageSource sink.new)) }
 {
     let form = form_of(new.distinct);
     if code_bytes(new.distinct) == code_bytes(old.distinct) {
