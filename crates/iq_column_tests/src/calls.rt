@@ -117,21 +117,25 @@ fn with_slots(
     Ok(table)
 }
 
+// Slots and distinct values, and which page is named: more values than slots, on the first page of values and on the second; then no page of
+// values; then none of codes.
+const NAMED: [(u32, u32, u32, u32); 4] = [
+    (3, 4, 514, 0),
+    (300, 301, 514, 1),
+    (4, 4, 514, 0),
+    (4, 0, 513, 0),
+];
+
 #[test]
 fn hostile_pages_are_named(rt: HostRuntime) -> Result<(), Fail> {
     let columns = columns(rt.alloc())?;
     let one = rows(&rt, rt.alloc(), &columns, 9, 10)?;
     let none = Vec::new(rt.alloc());
     let mut store = MemoryPages::new(rt.alloc(), none);
-    // More distinct values than rows, and then no page of them.
-    for (slots, distinct, object) in [(3, 4, 514), (4, 4, 514), (4, 0, 513)] {
+    for (slots, distinct, object, page) in NAMED {
         let mut table = with_slots(&rt, rt.alloc(), &columns, &mut store, slots, distinct)?;
         let done = append(&rt, rt.alloc(), &mut table, &mut store, &one);
-        assert_eq!(rt;
-            done,
-            Err(TableFault::BadPage { object, page: 0 }),
-            "{slots}"
-        );
+        assert_eq!(rt; done, Err(TableFault::BadPage { object, page }), "{slots}");
         assert_eq!(rt; table.parts.slots, slots);
         assert!(rt; table.place < 64);
         let lacks = PageFault::BadPage {
