@@ -103,6 +103,10 @@ abbrev pub pages_written : Fp → Fp → ℕ
 pages_written old new = pages_changed (width old.kind) old.distinct (new.distinct - old.distinct)
     + (if nat_eq (code_width old.distinct) (code_width new.distinct) then pages_changed (code_width old.distinct) old.slots (new.slots - old.slots) else pages_changed (code_width new.distinct) 0 new.slots)
 
+-- how many an append of so many rows writes at most: as many as where each row has a value of its own that wasn't there before
+abbrev pub most_written : Fp → ℕ → ℕ
+most_written old more = pages_written old (record old { slots = old.slots + more; distinct = old.distinct + more })
+
 -- how many it reads at most: all of values, and the last of codes, or all where their form changes
 abbrev pub pages_read : Fp → ℕ
 pages_read old = pages_for (width old.kind) old.distinct + max 1 (pages_for (code_width old.distinct) old.slots)

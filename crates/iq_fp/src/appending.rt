@@ -11,7 +11,7 @@ ghost use Rattle.iq_pieces.specs.Counts.{per_page, pages_for, pages_changed, Cou
 ghost use Rattle.iq_pieces.specs.Objects.{HoldsObject};
 ghost use Rattle.iq_fp.specs.Forms.{code_width, bytes_of};
 ghost use Rattle.iq_fp.specs.Stands.{HaveCells, HasRoom};
-ghost use Rattle.iq_fp.specs.Calls.{AreKnown, StandsForMore, SameObjects, IsLonger, KeepsOtherObjects, IsGrown, GoOn, WritesParts, HasReadCause, HasPartsCause, HasAppendCause, pages_read, pages_written};
+ghost use Rattle.iq_fp.specs.Calls.{AreKnown, StandsForMore, SameObjects, IsLonger, KeepsOtherObjects, IsGrown, GoOn, WritesParts, HasReadCause, HasPartsCause, HasAppendCause, pages_read, pages_written, most_written};
 
 use crate::distinct::first_repeat;
 use crate::fp::{Fp, code_bytes, form_of};
@@ -72,9 +72,11 @@ impl Fp {
         ensures others { KeepsOtherObjects self.old (view S.PageSource sink.old) (view S.PageSource sink.new) }
         ensures reads { CountsUpTo (pages_read self.old) (S.reads sink.old) (S.reads sink.new) }
         ensures written { OnOk result (CountsMore (pages_written self.old self.new) (S.writes sink.old) (S.writes sink.new)) }
+        ensures unwritten { CountsUpTo (most_written self.old (length cells.now.values)) (S.writes sink.old) (S.writes sink.new) }
         ensures later { S.faults sink.old ≤ S.faults sink.new }
         ensures cause { IfErr result (HasAppendCause self.old (view S.PageSource sink.old) (view S.PageSource sink.new)) }
     {
+        let _width = iq_base::width(self.kind);
         let known = distinct_values(alloc, sink, self)?;
         let numbered = number(alloc, &known, cells)?;
         have_cells(&numbered.new);
@@ -103,6 +105,7 @@ fn write_parts<S: PageSink>(
     ensures ok { OnOk result (WritesParts old.now new.now known.now.values numbered.now.new.values numbered.now.codes.items (view S.PageSource sink.old) (view S.PageSource sink.new)) }
     ensures others { KeepsOtherObjects old.now (view S.PageSource sink.old) (view S.PageSource sink.new) }
     ensures reads { CountsUpTo (max 1 (pages_for (code_width old.now.distinct) old.now.slots)) (S.reads sink.old) (S.reads sink.new) }
+    ensures unwritten { CountsUpTo (pages_written old.now new.now) (S.writes sink.old) (S.writes sink.new) }
     ensures later { S.faults sink.old ≤ S.faults sink.new }
     ensures cause { IfErr result (HasPartsCause old.now (view S.PageSource sink.old) (view S.PageSource sink.new)) }
 {

@@ -33,6 +33,7 @@ pub(crate) fn append_values<S: PageSink>(
     ensures others { KeepsOthers object (view S.PageSource sink.old) (view S.PageSource sink.new) }
     ensures reads { S.reads sink.new ≡ S.reads sink.old }
     ensures written { OnOk result (CountsMore (pages_changed (width known.now.kind) (length known.now.values) (length fresh.now.values)) (S.writes sink.old) (S.writes sink.new)) }
+    ensures unwritten { CountsUpTo (pages_changed (width known.now.kind) (length known.now.values) (length fresh.now.values)) (S.writes sink.old) (S.writes sink.new) }
     ensures later { S.faults sink.old ≤ S.faults sink.new }
     ensures cause { IfErr result (HasBehindCause (width known.now.kind) (length known.now.values) object (view S.PageSource sink.old) (view S.PageSource sink.new)) }
 {
@@ -59,6 +60,7 @@ pub(crate) fn append_codes<S: PageSink>(
     ensures others { KeepsOthers object (view S.PageSource sink.old) (view S.PageSource sink.new) }
     ensures reads { CountsUpTo 1 (S.reads sink.old) (S.reads sink.new) }
     ensures written { OnOk result (CountsMore (pages_changed (bytes_of form) count (length codes.now)) (S.writes sink.old) (S.writes sink.new)) }
+    ensures unwritten { CountsUpTo (pages_changed (bytes_of form) count (length codes.now)) (S.writes sink.old) (S.writes sink.new) }
     ensures later { S.faults sink.old ≤ S.faults sink.new }
     ensures cause { IfErr result (HasBehindCause (bytes_of form) count object (view S.PageSource sink.old) (view S.PageSource sink.new)) }
 {
@@ -82,6 +84,7 @@ pub(crate) fn rewrite_codes<S: PageSink>(
     ensures others { KeepsOthers object (view S.PageSource sink.old) (view S.PageSource sink.new) }
     ensures reads { S.reads sink.new ≡ S.reads sink.old }
     ensures written { OnOk result (CountsMore (pages_changed (bytes_of form) 0 (length codes.now)) (S.writes sink.old) (S.writes sink.new)) }
+    ensures unwritten { CountsUpTo (pages_changed (bytes_of form) 0 (length codes.now)) (S.writes sink.old) (S.writes sink.new) }
     ensures later { S.faults sink.old ≤ S.faults sink.new }
     ensures cause { IfErr result (HasCause object (view S.PageSource sink.old) (view S.PageSource sink.new)) }
 {

@@ -100,6 +100,7 @@ pub fn rewrite<S: PageSink, P: Pieces>(
     ensures others { KeepsOthers object (view S.PageSource sink.old) (view S.PageSource sink.new) }
     ensures reads { S.reads sink.new ≡ S.reads sink.old }
     ensures written { OnOk result (CountsMore (pages_changed (P.width items.now) 0 (length (P.pieces items.now))) (S.writes sink.old) (S.writes sink.new)) }
+    ensures unwritten { CountsUpTo (pages_changed (P.width items.now) 0 (length (P.pieces items.now))) (S.writes sink.old) (S.writes sink.new) }
     ensures later { S.faults sink.old ≤ S.faults sink.new }
     ensures cause { IfErr result (HasCause object (view S.PageSource sink.old) (view S.PageSource sink.new)) }
 {
