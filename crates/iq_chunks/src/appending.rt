@@ -27,6 +27,7 @@ pub fn append_ones<S: PageSink>(
     ensures others { KeepsOthers object (view S.PageSource sink.old) (view S.PageSource sink.new) }
     ensures reads { CountsUpTo 1 (S.reads sink.old) (S.reads sink.new) }
     ensures written { OnOk result (CountsMore (chunks_changed len more) (S.writes sink.old) (S.writes sink.new)) }
+    ensures unwritten { OnErr result (CountsUpTo (chunks_changed len more) (S.writes sink.old) (S.writes sink.new)) }
     ensures later { S.faults sink.old ≤ S.faults sink.new }
     ensures cause { IfErr result (HasBitsCause object len (view S.PageSource sink.old) (view S.PageSource sink.new)) }
 {
@@ -73,6 +74,7 @@ fn extend<S: PageSink>(
     ensures others { KeepsOthers object (view S.PageSource sink.old) (view S.PageSource sink.new) }
     ensures reads { CountsUpTo (min 1 (from % CHUNK_ROWS)) (S.reads sink.old) (S.reads sink.new) }
     ensures written { OnOk result (CountsMore 1 (S.writes sink.old) (S.writes sink.new)) }
+    ensures unwritten { OnErr result (S.writes sink.new ≡ S.writes sink.old) }
     ensures later { S.faults sink.old ≤ S.faults sink.new }
     ensures cause { IfErr result (HasBitsCause object from (view S.PageSource sink.old) (view S.PageSource sink.new)) }
     // Only a page that is read may be missing.

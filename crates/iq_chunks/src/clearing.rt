@@ -25,6 +25,7 @@ pub fn clear_bits<S: PageSink>(
     ensures others { KeepsOthers object (view S.PageSource sink.old) (view S.PageSource sink.new) }
     ensures reads { CountsUpTo (chunks_hit found.now) (S.reads sink.old) (S.reads sink.new) }
     ensures written { OnOk result (CountsMore (chunks_hit found.now) (S.writes sink.old) (S.writes sink.new)) }
+    ensures unwritten { OnErr result (CountsUpTo (chunks_hit found.now) (S.writes sink.old) (S.writes sink.new)) }
     ensures later { S.faults sink.old ≤ S.faults sink.new }
     ensures cause { IfErr result (HasBitsCause object (length found.now) (view S.PageSource sink.old) (view S.PageSource sink.new)) }
 {
@@ -48,6 +49,7 @@ fn clear_chunk<S: PageSink>(
     ensures others { KeepsOthers object (view S.PageSource sink.old) (view S.PageSource sink.new) }
     ensures reads { CountsUpTo (hit_in found.now chunk) (S.reads sink.old) (S.reads sink.new) }
     ensures written { OnOk result (CountsMore (hit_in found.now chunk) (S.writes sink.old) (S.writes sink.new)) }
+    ensures unwritten { OnErr result (S.writes sink.new ≡ S.writes sink.old) }
     ensures later { S.faults sink.old ≤ S.faults sink.new }
     ensures cause { IfErr result (HasBitsCause object (length found.now) (view S.PageSource sink.old) (view S.PageSource sink.new)) }
 {

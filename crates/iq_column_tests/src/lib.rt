@@ -1,5 +1,12 @@
-//! Tests of the layers of columns, by their public calls alone: bitmaps beside plain lists of bits.
+//! Tests of the layers of columns, by their public calls alone: bitmaps beside plain lists of bits, and tables over pages in
+//! memory.
 #![tactic(auto)]
 
 #[cfg(test)]
 mod bitmaps;
+#[cfg(test)]
+mod calls;
+#[cfg(test)]
+mod lists;
+#[cfg(test)]
+mod tables;

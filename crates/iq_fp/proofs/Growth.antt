@@ -186,32 +186,39 @@ known_still fp told told' known ec ev are = λ values stands. are values (stands
 pub more_still : (old new : Fp) (told told' after : ℕ → Option Pages) (more : List Value) → told' old.codes ≡ told old.codes → told' old.values ≡ told old.values → StandsForMore old new more told' after → StandsForMore old new more told after
 more_still old new told told' after more ec ev p = λ values stands. p values (stands_there old told told' values ec ev stands)
 
--- how many pages an append in one form wrote
-pub written_same : (old new : Fp) (kind : Kind) (k f s w : ℕ) (a b c : Option ℕ) → kind ≡ old.kind → k ≡ old.distinct → new.distinct ≡ old.distinct + f → new.slots ≡ old.slots + s → code_width new.distinct ≡ code_width old.distinct → w ≡ code_width new.distinct → CountsMore (pages_changed w old.slots s) a b → CountsMore (pages_changed (width kind) k f) b c → CountsMore (pages_written old new) a c
-written_same old new kind k f s w a b c ek eb ed es same ew p q =
+-- how many pages an append in one form writes
+pub total_same : (old new : Fp) (kind : Kind) (k f s w : ℕ) → kind ≡ old.kind → k ≡ old.distinct → new.distinct ≡ old.distinct + f → new.slots ≡ old.slots + s → code_width new.distinct ≡ code_width old.distinct → w ≡ code_width new.distinct → pages_written old new ≡ pages_changed (width kind) k f + pages_changed w old.slots s
+total_same old new kind k f s w ek eb ed es same ew =
     let test : nat_eq (code_width old.distinct) (code_width new.distinct) ≡ true = eq-eqb _ _ (sym same) in
     let fresh : new.distinct - old.distinct ≡ f = omega arith in
     let rows : new.slots - old.slots ≡ s = omega arith in
     let wide : code_width old.distinct ≡ w = sym (ew ∙ same) in
-    let total : pages_written old new ≡ pages_changed (width kind) k f + pages_changed w old.slots s =
     ap (λ (t : Bool). pages_changed (width old.kind) old.distinct (new.distinct - old.distinct) + (if t then pages_changed (code_width old.distinct) old.slots (new.slots - old.slots) else pages_changed (code_width new.distinct) 0 new.slots)) test
     ∙ ap₂ (λ (x : ℕ) (y : ℕ). pages_changed (width old.kind) old.distinct x + pages_changed (code_width old.distinct) old.slots y) fresh rows
     ∙ ap₂ (λ (x : ℕ) (y : ℕ). pages_changed x old.distinct f + pages_changed y old.slots s) (ap width (sym ek)) wide
-    ∙ ap (λ (x : ℕ). pages_changed (width kind) x f + pages_changed w old.slots s) (sym eb) in
-    let turned : pages_changed w old.slots s + pages_changed (width kind) k f ≡ pages_changed (width kind) k f + pages_changed w old.slots s = omega arith in
-    rw (total, ← turned) (counts_on _ _ a b c p q)
+    ∙ ap (λ (x : ℕ). pages_changed (width kind) x f + pages_changed w old.slots s) (sym eb)
 
 -- and how many one in a wider form
-pub written_wider : (old new : Fp) (kind : Kind) (k f s w : ℕ) (a b c : Option ℕ) → kind ≡ old.kind → k ≡ old.distinct → new.distinct ≡ old.distinct + f → new.slots ≡ s → code_width new.distinct ≢ code_width old.distinct → w ≡ code_width new.distinct → CountsMore (pages_changed (width kind) k f) a b → CountsMore (pages_changed w 0 s) b c → CountsMore (pages_written old new) a c
-written_wider old new kind k f s w a b c ek eb ed es other ew p q =
+pub total_wider : (old new : Fp) (kind : Kind) (k f s w : ℕ) → kind ≡ old.kind → k ≡ old.distinct → new.distinct ≡ old.distinct + f → new.slots ≡ s → code_width new.distinct ≢ code_width old.distinct → w ≡ code_width new.distinct → pages_written old new ≡ pages_changed (width kind) k f + pages_changed w 0 s
+total_wider old new kind k f s w ek eb ed es other ew =
     let differ : code_width old.distinct ≢ code_width new.distinct = λ e. other (sym e) in
     let test : nat_eq (code_width old.distinct) (code_width new.distinct) ≡ false = grind (arith, nat_tests) in
     let fresh : new.distinct - old.distinct ≡ f = omega arith in
-    let total : pages_written old new ≡ pages_changed (width kind) k f + pages_changed w 0 s =
     ap (λ (t : Bool). pages_changed (width old.kind) old.distinct (new.distinct - old.distinct) + (if t then pages_changed (code_width old.distinct) old.slots (new.slots - old.slots) else pages_changed (code_width new.distinct) 0 new.slots)) test
     ∙ ap₂ (λ (x : ℕ) (y : ℕ). pages_changed (width old.kind) old.distinct x + pages_changed (code_width new.distinct) 0 y) fresh es
     ∙ ap₂ (λ (x : ℕ) (y : ℕ). pages_changed x old.distinct f + pages_changed y 0 s) (ap width (sym ek)) (sym ew)
-    ∙ ap (λ (x : ℕ). pages_changed (width kind) x f + pages_changed w 0 s) (sym eb) in
+    ∙ ap (λ (x : ℕ). pages_changed (width kind) x f + pages_changed w 0 s) (sym eb)
+
+-- so many were written
+pub written_same : (old new : Fp) (kind : Kind) (k f s w : ℕ) (a b c : Option ℕ) → kind ≡ old.kind → k ≡ old.distinct → new.distinct ≡ old.distinct + f → new.slots ≡ old.slots + s → code_width new.distinct ≡ code_width old.distinct → w ≡ code_width new.distinct → CountsMore (pages_changed w old.slots s) a b → CountsMore (pages_changed (width kind) k f) b c → CountsMore (pages_written old new) a c
+written_same old new kind k f s w a b c ek eb ed es same ew p q =
+    let total = total_same old new kind k f s w ek eb ed es same ew in
+    let turned : pages_changed w old.slots s + pages_changed (width kind) k f ≡ pages_changed (width kind) k f + pages_changed w old.slots s = omega arith in
+    rw (total, ← turned) (counts_on _ _ a b c p q)
+
+pub written_wider : (old new : Fp) (kind : Kind) (k f s w : ℕ) (a b c : Option ℕ) → kind ≡ old.kind → k ≡ old.distinct → new.distinct ≡ old.distinct + f → new.slots ≡ s → code_width new.distinct ≢ code_width old.distinct → w ≡ code_width new.distinct → CountsMore (pages_changed (width kind) k f) a b → CountsMore (pages_changed w 0 s) b c → CountsMore (pages_written old new) a c
+written_wider old new kind k f s w a b c ek eb ed es other ew p q =
+    let total = total_wider old new kind k f s w ek eb ed es other ew in
     rw total (counts_on _ _ a b c p q)
 
 -- two facts at an Ok give a third there

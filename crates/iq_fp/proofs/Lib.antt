@@ -5,3 +5,4 @@ pub mod OnPages
 pub mod Chosen
 pub mod Pairs
 pub mod ColumnLaws
+pub mod Bounds

@@ -9,17 +9,19 @@ use Rattle.iq_base.specs.declared.values.Value.{Value}
 use Rattle.iq_base.specs.declared.values.Value.TheVariants.{Null}
 use Rattle.iq_base.specs.Cells.{width, cell, IsCell}
 use Rattle.iq_base.proofs.CellLaws.{only_cell}
-use Rattle.iq_pages.specs.Pages.{Pages, IsPageOf}
+use Rattle.iq_pages.specs.declared.page_faults.PageFault.{PageFault}
+use Rattle.iq_pages.specs.declared.page_faults.PageFault.TheVariants.{Failed, BadPage, NoMemory}
+use Rattle.iq_pages.specs.Pages.{Pages, Seen, IsPageOf, NamesPage}
 use Rattle.iq_cells.specs.Pieces.{piece_in}
 use Rattle.iq_cells.specs.Packed.{value_at}
 use Rattle.iq_cells.specs.Codes.{code_in}
-use Rattle.iq_pieces.specs.Counts.{per_page}
+use Rattle.iq_pieces.specs.Counts.{per_page, pages_for}
 use Rattle.iq_pieces.specs.Objects.{piece_at, page_at, HoldsObject}
-use Rattle.iq_pieces.specs.Faults.{Form, form_width, IsPiece, ArePieces, pieces_on, HasSoundPage}
+use Rattle.iq_pieces.specs.Faults.{Form, form_width, IsPiece, ArePieces, pieces_on, HasSoundPage, HasPageCause}
 use Rattle.iq_fp.specs.declared.fp.Fp.{Fp}
 use Rattle.iq_fp.specs.Forms.{code_width}
 use Rattle.iq_fp.specs.Stands.{Stands}
-use Rattle.iq_fp.specs.Calls.{AreKnown}
+use Rattle.iq_fp.specs.Calls.{AreKnown, HasReadCause}
 use Rattle.iq_fp.specs.Scans.{MarksRows, AreMarked}
 use Rattle.iq_fp.proofs.Readings.{width_enough, codes_below}
 use Rattle.iq_fp.proofs.Growth.{stands_there}
@@ -75,6 +77,12 @@ unsound_piece form count told p i page is small bad = λ h. bad (subst (λ (b : 
 -- so is one whose first pieces aren't all of it
 pub unsound_pieces : (form : Form) (count : ℕ) (told : Option Pages) (p n : ℕ) (page : List ℕ) → IsPageOf told p page → n ≡ pieces_on (form_width form) count p → ¬ (ArePieces form page n) → ¬ (HasSoundPage form count told p)
 unsound_pieces form count told p n page is size bad = λ h. bad (λ i small. subst (λ (b : List ℕ). IsPiece form (piece_in (form_width form) b i)) (page_is told p page h.0 is h.1) (h.3 i (omega arith)))
+
+-- a page of values that isn't read
+pub values_unread : (fp : Fp) (n : ℕ) (a b : Seen) (fault : PageFault) → n < pages_for (width fp.kind) fp.distinct → NamesPage n fault → HasPageCause fp.values a b fault → HasReadCause fp a b fault
+values_unread fp n a b (Failed x y) less names h = h
+values_unread fp n a b (BadPage named page) less names h = inr (h.0, omega (arith, names), λ there. h.1 (there.0, there.1, there.2))
+values_unread fp n a b NoMemory less names h = tt
 
 -- the rows before an end have the bits of their codes
 abbrev pub AreMarkedTo : Fp → (ℕ → Option Pages) → List Bool → ℕ → List Bool → Type 0

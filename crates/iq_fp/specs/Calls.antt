@@ -39,11 +39,23 @@ AreValuesOf fp told got = (values : List Value) → Stands fp told values → go
 abbrev pub StandsForMore : Fp → Fp → List Value → (ℕ → Option Pages) → (ℕ → Option Pages) → Type 0
 StandsForMore old new more before after = (values : List Value) → Stands old before values → Stands new after (values ++ more)
 
--- why a column isn't read: the store failed; or the page that the fault names isn't told, isn't there, or has bytes that are no
--- codes below the number of distinct values, or no cells of the kind
+-- the page that the fault names is one that the codes need, and isn't there or has bytes that are no codes below the number of
+-- distinct values
+abbrev pub HasBadCodes : Fp → (ℕ → Option Pages) → ℕ → ℕ → Type 0
+HasBadCodes fp told named page =
+    (named ≡ fp.codes) × (page < pages_for (code_width fp.distinct) fp.slots)
+    × ¬ (HasSoundPage (CodesBelow (code_width fp.distinct) fp.distinct) fp.slots (told fp.codes) page)
+
+-- it is one that the distinct values need, and isn't there or has bytes that are no cells of the kind
+abbrev pub HasBadValues : Fp → (ℕ → Option Pages) → ℕ → ℕ → Type 0
+HasBadValues fp told named page =
+    (named ≡ fp.values) × (page < pages_for (width fp.kind) fp.distinct)
+    × ¬ (HasSoundPage (CellsOf fp.kind) fp.distinct (told fp.values) page)
+
+-- why a column isn't read: the store failed; or the page that the fault names isn't a sound one of codes or of values
 abbrev pub HasReadCause : Fp → Seen → Seen → PageFault → Type 0
 HasReadCause fp before after (Failed x y) = RoseWithin before.faults x y after.faults
-HasReadCause fp before after (BadPage named page) = ((named ≡ fp.codes) × ¬ (HasSoundPage (CodesBelow (code_width fp.distinct) fp.distinct) fp.slots (before.told fp.codes) page)) ⊎ ((named ≡ fp.values) × ¬ (HasSoundPage (CellsOf fp.kind) fp.distinct (before.told fp.values) page))
+HasReadCause fp before after (BadPage named page) = HasBadCodes fp before.told named page ⊎ HasBadValues fp before.told named page
 HasReadCause fp before after NoMemory = ⊤
 
 -- how many pages have all codes and all distinct values
@@ -59,10 +71,26 @@ IsRepeat vs (Some place) = (place < length vs) × ¬ (AreDistinct vs)
 abbrev pub StandsForNone : Fp → (ℕ → Option Pages) → Type 0
 StandsForNone fp told = (values : List Value) → ¬ (Stands fp told values)
 
--- why a column isn't appended to: as it isn't read, or its distinct values repeat one, so that the pages stand for no values
+-- the object is one of the column's two, and its pages aren't told
+abbrev pub IsUntold : Fp → (ℕ → Option Pages) → ℕ → Type 0
+IsUntold fp told named = ((named ≡ fp.codes) ⊎ (named ≡ fp.values)) × (told named ≡ None)
+
+-- the page is one that the distinct values need, and these repeat one or are more than the rows, so that the pages stand for no values
+abbrev pub IsRepeated : Fp → (ℕ → Option Pages) → ℕ → ℕ → Type 0
+IsRepeated fp told named page = (named ≡ fp.values) × (page < pages_for (width fp.kind) fp.distinct) × StandsForNone fp told
+
+-- why the parts of a column aren't written: as it isn't read, or one of its objects, which the fault names, isn't told
+abbrev pub HasPartsCause : Fp → Seen → Seen → PageFault → Type 0
+HasPartsCause fp before after (Failed x y) = RoseWithin before.faults x y after.faults
+HasPartsCause fp before after (BadPage named page) = HasReadCause fp before after (BadPage named page) ⊎ IsUntold fp before.told named
+HasPartsCause fp before after NoMemory = ⊤
+
+-- why a column isn't appended to: as its parts aren't written, or the page that the fault names is one of distinct values that stand
+-- for nothing
 abbrev pub HasAppendCause : Fp → Seen → Seen → PageFault → Type 0
 HasAppendCause fp before after (Failed x y) = RoseWithin before.faults x y after.faults
-HasAppendCause fp before after (BadPage named page) = HasReadCause fp before after (BadPage named page) ⊎ ((named ≡ fp.values) × StandsForNone fp before.told)
+HasAppendCause fp before after (BadPage named page) =
+    HasPartsCause fp before after (BadPage named page) ⊎ IsRepeated fp before.told named page
 HasAppendCause fp before after NoMemory = ⊤
 
 -- what changed of a column: its two objects, and every other object has the pages that it had
@@ -74,6 +102,10 @@ pub record KeepsOtherObjects (fp : Fp) (before after : Seen) : Type 0 where
 abbrev pub pages_written : Fp → Fp → ℕ
 pages_written old new = pages_changed (width old.kind) old.distinct (new.distinct - old.distinct)
     + (if nat_eq (code_width old.distinct) (code_width new.distinct) then pages_changed (code_width old.distinct) old.slots (new.slots - old.slots) else pages_changed (code_width new.distinct) 0 new.slots)
+
+-- how many an append of so many rows writes at most: as many as where each row has a value of its own that wasn't there before
+abbrev pub most_written : Fp → ℕ → ℕ
+most_written old more = pages_written old (record old { slots = old.slots + more; distinct = old.distinct + more })
 
 -- how many it reads at most: all of values, and the last of codes, or all where their form changes
 abbrev pub pages_read : Fp → ℕ

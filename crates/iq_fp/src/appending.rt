@@ -9,10 +9,9 @@ ghost use Rattle.iq_numbering.specs.Numbers.{AreDistinct};
 ghost use Rattle.iq_pieces.specs.Codes.{AreBelow};
 ghost use Rattle.iq_pieces.specs.Counts.{per_page, pages_for, pages_changed, CountsUpTo, KeepsOthers, OnlyReads};
 ghost use Rattle.iq_pieces.specs.Objects.{HoldsObject};
-ghost use Rattle.iq_pieces.specs.Faults.{HasPageCause};
 ghost use Rattle.iq_fp.specs.Forms.{code_width, bytes_of};
 ghost use Rattle.iq_fp.specs.Stands.{HaveCells, HasRoom};
-ghost use Rattle.iq_fp.specs.Calls.{AreKnown, StandsForMore, SameObjects, IsLonger, KeepsOtherObjects, IsGrown, GoOn, WritesParts, HasReadCause, HasAppendCause, pages_read, pages_written};
+ghost use Rattle.iq_fp.specs.Calls.{AreKnown, StandsForMore, SameObjects, IsLonger, KeepsOtherObjects, IsGrown, GoOn, WritesParts, HasReadCause, HasPartsCause, HasAppendCause, pages_read, pages_written, most_written};
 
 use crate::distinct::first_repeat;
 use crate::fp::{Fp, code_bytes, form_of};
@@ -73,9 +72,11 @@ impl Fp {
         ensures others { KeepsOtherObjects self.old (view S.PageSource sink.old) (view S.PageSource sink.new) }
         ensures reads { CountsUpTo (pages_read self.old) (S.reads sink.old) (S.reads sink.new) }
         ensures written { OnOk result (CountsMore (pages_written self.old self.new) (S.writes sink.old) (S.writes sink.new)) }
+        ensures unwritten { CountsUpTo (most_written self.old (length cells.now.values)) (S.writes sink.old) (S.writes sink.new) }
         ensures later { S.faults sink.old ≤ S.faults sink.new }
         ensures cause { IfErr result (HasAppendCause self.old (view S.PageSource sink.old) (view S.PageSource sink.new)) }
     {
+        let _width = iq_base::width(self.kind);
         let known = distinct_values(alloc, sink, self)?;
         let numbered = number(alloc, &known, cells)?;
         have_cells(&numbered.new);
@@ -104,8 +105,9 @@ fn write_parts<S: PageSink>(
     ensures ok { OnOk result (WritesParts old.now new.now known.now.values numbered.now.new.values numbered.now.codes.items (view S.PageSource sink.old) (view S.PageSource sink.new)) }
     ensures others { KeepsOtherObjects old.now (view S.PageSource sink.old) (view S.PageSource sink.new) }
     ensures reads { CountsUpTo (max 1 (pages_for (code_width old.now.distinct) old.now.slots)) (S.reads sink.old) (S.reads sink.new) }
+    ensures unwritten { CountsUpTo (pages_written old.now new.now) (S.writes sink.old) (S.writes sink.new) }
     ensures later { S.faults sink.old ≤ S.faults sink.new }
-    ensures cause { IfErr result (HasReadCause old.now (view S.PageSource sink.old) (view S.PageSource sink.new)) }
+    ensures cause { IfErr result (HasPartsCause old.now (view S.PageSource sink.old) (view S.PageSource sink.new)) }
 {
     let form = form_of(new.distinct);
     if code_bytes(new.distinct) == code_bytes(old.distinct) {

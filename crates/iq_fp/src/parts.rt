@@ -4,11 +4,11 @@ ghost use Rattle.byteorder.specs.Endian.{little_bytes};
 ghost use Rattle.iq_base.specs.declared.sizes.TheConstants.{MOST_PAGES};
 ghost use Rattle.iq_base.specs.Cells.{width, cell};
 ghost use Rattle.iq_pages.specs.PageCalls.{view};
-ghost use Rattle.iq_pages.specs.Pages.{CountsMore};
+ghost use Rattle.iq_pages.specs.Pages.{CountsMore, HasCause};
 ghost use Rattle.iq_pieces.specs.Codes.{AreBelow};
 ghost use Rattle.iq_pieces.specs.Counts.{per_page, pages_changed, CountsUpTo, KeepsOthers};
 ghost use Rattle.iq_pieces.specs.Objects.{Appends, HoldsObject, HoldsAnew};
-ghost use Rattle.iq_pieces.specs.Faults.{HasPageCause};
+ghost use Rattle.iq_pieces.specs.Faults.{HasBehindCause};
 ghost use Rattle.iq_fp.specs.Forms.{bytes_of};
 
 use crate::fp::Form;
@@ -33,8 +33,9 @@ pub(crate) fn append_values<S: PageSink>(
     ensures others { KeepsOthers object (view S.PageSource sink.old) (view S.PageSource sink.new) }
     ensures reads { S.reads sink.new ≡ S.reads sink.old }
     ensures written { OnOk result (CountsMore (pages_changed (width known.now.kind) (length known.now.values) (length fresh.now.values)) (S.writes sink.old) (S.writes sink.new)) }
+    ensures unwritten { CountsUpTo (pages_changed (width known.now.kind) (length known.now.values) (length fresh.now.values)) (S.writes sink.old) (S.writes sink.new) }
     ensures later { S.faults sink.old ≤ S.faults sink.new }
-    ensures cause { IfErr result (HasPageCause object (view S.PageSource sink.old) (view S.PageSource sink.new)) }
+    ensures cause { IfErr result (HasBehindCause (width known.now.kind) (length known.now.values) object (view S.PageSource sink.old) (view S.PageSource sink.new)) }
 {
     let per = PAGE_BYTES / iq_base::width(known.kind());
     let count = known.len();
@@ -59,8 +60,9 @@ pub(crate) fn append_codes<S: PageSink>(
     ensures others { KeepsOthers object (view S.PageSource sink.old) (view S.PageSource sink.new) }
     ensures reads { CountsUpTo 1 (S.reads sink.old) (S.reads sink.new) }
     ensures written { OnOk result (CountsMore (pages_changed (bytes_of form) count (length codes.now)) (S.writes sink.old) (S.writes sink.new)) }
+    ensures unwritten { CountsUpTo (pages_changed (bytes_of form) count (length codes.now)) (S.writes sink.old) (S.writes sink.new) }
     ensures later { S.faults sink.old ≤ S.faults sink.new }
-    ensures cause { IfErr result (HasPageCause object (view S.PageSource sink.old) (view S.PageSource sink.new)) }
+    ensures cause { IfErr result (HasBehindCause (bytes_of form) count object (view S.PageSource sink.old) (view S.PageSource sink.new)) }
 {
     match form {
         Form::One => append(sink, object, count, &Codes::<1>::of(codes)),
@@ -82,8 +84,9 @@ pub(crate) fn rewrite_codes<S: PageSink>(
     ensures others { KeepsOthers object (view S.PageSource sink.old) (view S.PageSource sink.new) }
     ensures reads { S.reads sink.new ≡ S.reads sink.old }
     ensures written { OnOk result (CountsMore (pages_changed (bytes_of form) 0 (length codes.now)) (S.writes sink.old) (S.writes sink.new)) }
+    ensures unwritten { CountsUpTo (pages_changed (bytes_of form) 0 (length codes.now)) (S.writes sink.old) (S.writes sink.new) }
     ensures later { S.faults sink.old ≤ S.faults sink.new }
-    ensures cause { IfErr result (HasPageCause object (view S.PageSource sink.old) (view S.PageSource sink.new)) }
+    ensures cause { IfErr result (HasCause object (view S.PageSource sink.old) (view S.PageSource sink.new)) }
 {
     match form {
         Form::One => rewrite(sink, object, &Codes::<1>::of(codes)),

@@ -1,16 +1,14 @@
 -- Counts of pages, and calls that follow one another.
-use Rattle.std.proofs.Common.{◌≡◌, ◌≢◌, ◌<◌, ◌≤◌, ℕ, zero, suc, ◌+◌, ◌-◌, ◌*◌, ◌/◌, ◌%◌, min, inl, inr, List, [], Option, Some, None, zero-add, refl, sym, ap, ◌∙◌, arith}
+use Rattle.std.proofs.Common.{◌≡◌, ◌<◌, ◌≤◌, ℕ, zero, suc, ◌+◌, ◌-◌, ◌*◌, ◌/◌, ◌%◌, min, inl, inr, [], Option, Some, None, zero-add, refl, ap, ◌∙◌, arith}
 use Rattle.std.proofs.Math.Nat.{mul-le-mul_left, mul_comm}
 use Rattle.std.proofs.lemmas.Bool.{cases_lt}
 use Rattle.std.proofs.lemmas.Grind.{div_ceil_times}
 use Rattle.std.specs.Option.{option_map}
-use Rattle.iq_outside.specs.Faults.{RoseWithin}
 use Rattle.iq_pages.specs.Pages.{Pages, Seen, CountsMore, KeepsObjects, HasCause}
 use Rattle.iq_pages.specs.declared.page_faults.PageFault.{PageFault}
 use Rattle.iq_pages.specs.declared.page_faults.PageFault.TheVariants.{Failed, BadPage, NoMemory}
 use Rattle.iq_pages.proofs.PageLaws.{rose_since, counts_on}
 use Rattle.iq_pieces.specs.Counts.{per_page, pages_for, pages_changed, CountsUpTo, KeepsOthers, OnlyReads}
-use Rattle.iq_pieces.specs.Faults.{Form, HasPage, HasSoundPage, HasPageCause, HasPiecesCause}
 
 -- where there are more pieces, the pages change up to that of the last
 pub changed_some : (w count n : ℕ) → 0 < n → pages_changed w count n ≡ pages_for w (count + n) - count / per_page w
@@ -54,23 +52,6 @@ reads_on m n k a b c l p q = record {
   writes = q.writes ∙ p.writes;
   later = omega (arith, p.later, q.later);
 }
-
--- a cause that comes after objects were kept
-pub page_cause_since : (object : ℕ) (a b c : Seen) (fault : PageFault) → KeepsObjects a b → a.faults ≤ b.faults → HasPageCause object b c fault → HasPageCause object a c fault
-page_cause_since object a b c (Failed x y) k l h = rose_since _ _ _ _ _ l h
-page_cause_since object a b c (BadPage named page) k l h = (h.0, λ there. h.1 (there.0, k.told object ∙ there.1, there.2))
-page_cause_since object a b c NoMemory k l h = tt
-
-pub pieces_cause_since : (form : Form) (count object : ℕ) (a b c : Seen) (fault : PageFault) → KeepsObjects a b → a.faults ≤ b.faults → HasPiecesCause form count object b c fault → HasPiecesCause form count object a c fault
-pieces_cause_since form count object a b c (Failed x y) k l h = rose_since _ _ _ _ _ l h
-pieces_cause_since form count object a b c (BadPage named page) k l h = (h.0, λ there. h.1 (there.0, k.told object ∙ there.1, there.2, there.3))
-pieces_cause_since form count object a b c NoMemory k l h = tt
-
--- a cause of the sink's own, where the object was told no better before
-pub dark_cause : (object : ℕ) (a b c : Seen) (fault : PageFault) → (b.told object ≡ None → a.told object ≡ None) → a.faults ≤ b.faults → HasCause object b c fault → HasPageCause object a c fault
-dark_cause object a b c (Failed x y) dark l h = rose_since _ _ _ _ _ l h
-dark_cause object a b c (BadPage named page) dark l h = (h.0, λ there. let none = dark h.1 in let some = there.1 in absurd (cc))
-dark_cause object a b c NoMemory dark l h = tt
 
 -- a page within those that n pieces need begins before the last of them
 pub begins_before : (per n p end : ℕ) → 0 < per → end ≡ n / per + min 1 (n % per) → p < end → per * p < n

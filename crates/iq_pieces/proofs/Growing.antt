@@ -6,7 +6,7 @@ use Rattle.std.proofs.lemmas.List.{length-append, length-take, length-drop, get_
 use Rattle.iq_cells.specs.Pieces.{piece_in}
 use Rattle.iq_pages.specs.Pages.{Pages}
 use Rattle.iq_pieces.specs.Counts.{per_page}
-use Rattle.iq_pieces.specs.Objects.{page_at, piece_at, Holds, HoldsObject, put_page, SavesPage, AddsPage}
+use Rattle.iq_pieces.specs.Objects.{page_at, piece_at, Holds, put_page, SavesPage, AddsPage}
 use Rattle.iq_pieces.proofs.PutPage.{put_here, put_before, put_length}
 
 -- page p of an object is filled on: its first pieces stay, and more stand behind them

@@ -9,7 +9,7 @@ use Rattle.std.proofs.lemmas.Option.{get_or_from_slice_get}
 use Rattle.iq_cells.specs.Pieces.{piece_in}
 use Rattle.iq_pages.specs.Pages.{Pages, IsPageOf}
 use Rattle.iq_pieces.specs.Counts.{per_page}
-use Rattle.iq_pieces.specs.Objects.{piece_at, page_at, Holds, HoldsObject, HoldsAnew, BeginsAs, LoadsLast, AppendsBehind, AddsPage, Appends}
+use Rattle.iq_pieces.specs.Objects.{piece_at, page_at, Holds, HoldsAnew, LoadsLast, AppendsBehind, AddsPage, Appends}
 
 -- before the first page
 pub behind_none : (w start n : ℕ) (last : List ℕ) (xs : List (List ℕ)) (told : Option Pages) → n ≡ 0 → AppendsBehind w start last (take n xs) told told

@@ -1,5 +1,5 @@
 -- Taking in the pieces of an object, a page at a time.
-use Rattle.std.proofs.Common.{◌≡◌, ◌<◌, ◌≤◌, ℕ, ◌+◌, ◌-◌, ◌*◌, inl, inr, List, [], ◌++◌, Option, Some, length, sym, ap, ◌∙◌, subst, arith}
+use Rattle.std.proofs.Common.{◌≡◌, ◌<◌, ◌≤◌, ℕ, ◌+◌, ◌*◌, inl, inr, List, [], ◌++◌, Option, length, sym, ap, ◌∙◌, arith}
 use Rattle.std.proofs.Math.Nat.{mul-le-mul_left}
 use Rattle.std.proofs.lemmas.Bool.{cases_lt}
 use Rattle.std.proofs.lemmas.List.{length-append, get_or_append_left, get_or-append-add}
@@ -7,7 +7,7 @@ use Rattle.std.proofs.lemmas.List.FromFn.{length-map-range_with_len, get_or-map-
 use Rattle.iq_cells.specs.Pieces.{piece_in}
 use Rattle.iq_pages.specs.Pages.{Pages}
 use Rattle.iq_pieces.specs.Counts.{per_page}
-use Rattle.iq_pieces.specs.Objects.{page_at, piece_at, pieces_in, HoldsInOrder, AreFirst}
+use Rattle.iq_pieces.specs.Objects.{page_at, piece_at, pieces_in, AreFirst}
 use Rattle.iq_pieces.specs.Reading.{TakesPage}
 
 pub length-pieces_in : (w : ℕ) (page : List ℕ) (n : ℕ) → length (pieces_in w page n) ≡ n

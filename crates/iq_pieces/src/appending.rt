@@ -5,7 +5,7 @@ ghost use Rattle.iq_pages.specs.PageCalls.{view};
 ghost use Rattle.iq_pages.specs.Pages.{CountsMore, HasCause};
 ghost use Rattle.iq_pieces.specs.Counts.{per_page, pages_changed, CountsUpTo, KeepsOthers, OnlyReads};
 ghost use Rattle.iq_pieces.specs.Objects.{Appends, AppendsBehind, AddsPage, LoadsLast, HoldsAnew};
-ghost use Rattle.iq_pieces.specs.Faults.{HasPageCause};
+ghost use Rattle.iq_pieces.specs.Faults.{HasBehindCause};
 
 use crate::pages::{read_page, save_page};
 use crate::pieces::Pieces;
@@ -28,7 +28,7 @@ pub fn append<S: PageSink, P: Pieces>(
     ensures written { OnOk result (CountsMore (pages_changed (P.width items.now) count (length (P.pieces items.now))) (S.writes sink.old) (S.writes sink.new)) }
     ensures unwritten { CountsUpTo (pages_changed (P.width items.now) count (length (P.pieces items.now))) (S.writes sink.old) (S.writes sink.new) }
     ensures later { S.faults sink.old ≤ S.faults sink.new }
-    ensures cause { IfErr result (HasPageCause object (view S.PageSource sink.old) (view S.PageSource sink.new)) }
+    ensures cause { IfErr result (HasBehindCause (P.width items.now) count object (view S.PageSource sink.old) (view S.PageSource sink.new)) }
 {
     if items.count() == 0 {
         return Ok(());
@@ -49,7 +49,7 @@ fn load_last<S: PageSource>(
     requires { (1 ≤ width) × (width ≤ 257) }
     ensures ok { OnOk result (LoadsLast width count (S.told source.old object) into.new) }
     ensures reads { OnlyReads 1 (view S.PageSource source.old) (view S.PageSource source.new) }
-    ensures cause { IfErr result (HasPageCause object (view S.PageSource source.old) (view S.PageSource source.new)) }
+    ensures cause { IfErr result (HasBehindCause width count object (view S.PageSource source.old) (view S.PageSource source.new)) }
 {
     let per = PAGE_BYTES / width;
     if count as usize % per == 0 {
@@ -74,7 +74,7 @@ pub fn append_behind<S: PageSink, P: Pieces>(
     ensures written { OnOk result (CountsMore (pages_changed (P.width items.now) count (length (P.pieces items.now))) (S.writes sink.old) (S.writes sink.new)) }
     ensures unwritten { CountsUpTo (pages_changed (P.width items.now) count (length (P.pieces items.now))) (S.writes sink.old) (S.writes sink.new) }
     ensures later { S.faults sink.old ≤ S.faults sink.new }
-    ensures cause { IfErr result (HasPageCause object (view S.PageSource sink.old) (view S.PageSource sink.new)) }
+    ensures cause { IfErr result (HasBehindCause (P.width items.now) count object (view S.PageSource sink.old) (view S.PageSource sink.new)) }
 {
     let per = PAGE_BYTES / items.width();
     let have = sink.pages(object);
@@ -100,8 +100,9 @@ pub fn rewrite<S: PageSink, P: Pieces>(
     ensures others { KeepsOthers object (view S.PageSource sink.old) (view S.PageSource sink.new) }
     ensures reads { S.reads sink.new ≡ S.reads sink.old }
     ensures written { OnOk result (CountsMore (pages_changed (P.width items.now) 0 (length (P.pieces items.now))) (S.writes sink.old) (S.writes sink.new)) }
+    ensures unwritten { CountsUpTo (pages_changed (P.width items.now) 0 (length (P.pieces items.now))) (S.writes sink.old) (S.writes sink.new) }
     ensures later { S.faults sink.old ≤ S.faults sink.new }
-    ensures cause { IfErr result (HasPageCause object (view S.PageSource sink.old) (view S.PageSource sink.new)) }
+    ensures cause { IfErr result (HasCause object (view S.PageSource sink.old) (view S.PageSource sink.new)) }
 {
     let _width = items.width();
     sink.new_object(object)?;

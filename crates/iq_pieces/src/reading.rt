@@ -47,7 +47,7 @@ fn take_page<S: PageSource, T: Takes>(
     ensures ok { OnOk result (TakesPage (S.told source.old object) (form_width (T.form into.old)) p n (T.taken into.old) (T.taken into.new)) }
     ensures form { T.form into.new ≡ T.form into.old }
     ensures reads { OnlyReads 1 (view S.PageSource source.old) (view S.PageSource source.new) }
-    ensures cause { (count : ℕ) → n ≡ pieces_on (form_width (T.form into.old)) count p → IfErr result (HasPiecesCause (T.form into.old) count object (view S.PageSource source.old) (view S.PageSource source.new)) }
+    ensures cause { (count : ℕ) → p < pages_for (form_width (T.form into.old)) count → n ≡ pieces_on (form_width (T.form into.old)) count p → IfErr result (HasPiecesCause (T.form into.old) count object (view S.PageSource source.old) (view S.PageSource source.new)) }
 {
     let mut page = [0; PAGE_BYTES];
     read_page(source, object, p, &mut page)?;

@@ -149,11 +149,17 @@ column_cause place slots c parts a b d (BadPage named page) within kept later h 
       c,
       within,
       elim h [
-        | inl read ↦ inl (elim read [
-          | inl codes ↦ inl (codes.0, subst (λ (o : Option Pages). ¬ (HasSoundPage (CodesBelow (code_width part.distinct) part.distinct) slots o page)) ec codes.1)
-          | inr values ↦ inr (values.0, subst (λ (o : Option Pages). ¬ (HasSoundPage (CellsOf part.kind) part.distinct o page)) ev values.1)
+        | inl wrote ↦ inl (elim wrote [
+          | inl read ↦ inl (elim read [
+            | inl codes ↦ inl (codes.0, codes.1, subst (λ (o : Option Pages). ¬ (HasSoundPage (CodesBelow (code_width part.distinct) part.distinct) slots o page)) ec codes.2)
+            | inr values ↦ inr (values.0, values.1, subst (λ (o : Option Pages). ¬ (HasSoundPage (CellsOf part.kind) part.distinct o page)) ev values.2)
+          ])
+          | inr dark ↦ inr (elim dark.0 [
+            | inl codes ↦ (inl codes, ap a.told codes ∙ sym ec ∙ ap b.told (sym codes) ∙ dark.1)
+            | inr values ↦ (inr values, ap a.told values ∙ sym ev ∙ ap b.told (sym values) ∙ dark.1)
+          ])
         ])
-        | inr none ↦ inr (none.0, λ values stands. none.1 values (stands_there (fp_of place slots c part) a.told b.told values ec ev stands))
+        | inr none ↦ inr (none.0, none.1, λ values stands. none.2 values (stands_there (fp_of place slots c part) a.told b.told values ec ev stands))
       ],
     )
 column_cause place slots c parts a b d NoMemory within kept later h = tt

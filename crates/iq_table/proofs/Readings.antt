@@ -129,8 +129,8 @@ rows_cause table columns i a b d (BadPage named page) within kept later h =
       i,
       within,
       elim h [
-        | inl codes ↦ inl (codes.0, subst (λ (o : Option Pages). ¬ (HasSoundPage (CodesBelow (code_width fp.distinct) fp.distinct) fp.slots o page)) (kept.told fp.codes) codes.1)
-        | inr values ↦ inr (values.0, subst (λ (o : Option Pages). ¬ (HasSoundPage (CellsOf fp.kind) fp.distinct o page)) (kept.told fp.values) values.1)
+        | inl codes ↦ inl (codes.0, codes.1, subst (λ (o : Option Pages). ¬ (HasSoundPage (CodesBelow (code_width fp.distinct) fp.distinct) fp.slots o page)) (kept.told fp.codes) codes.2)
+        | inr values ↦ inr (values.0, values.1, subst (λ (o : Option Pages). ¬ (HasSoundPage (CellsOf fp.kind) fp.distinct o page)) (kept.told fp.values) values.2)
       ],
     )
 rows_cause table columns i a b d NoMemory within kept later h = tt

@@ -1,5 +1,5 @@
 //! Removing rows of a table.
-ghost use Rattle.std.specs.Prelude.{◌≡◌, ◌<◌, ◌≤◌, false, length, replicate, count_by, OnOk, IfOk, IfErr};
+ghost use Rattle.std.specs.Prelude.{◌≡◌, ◌<◌, ◌≤◌, false, length, replicate, count_by, OnOk, OnErr, IfOk, IfErr};
 ghost use Rattle.iq_pages.specs.PageCalls.{view};
 ghost use Rattle.iq_pages.specs.Pages.{CountsMore};
 ghost use Rattle.iq_pieces.specs.Counts.{CountsUpTo, KeepsOthers};
@@ -32,6 +32,7 @@ impl Table {
         ensures none { found.now ≡ replicate (length found.now) false → sink.new ≡ sink.old }
         ensures reads { CountsUpTo (chunks_hit found.now) (S.reads sink.old) (S.reads sink.new) }
         ensures written { OnOk result (CountsMore (chunks_hit found.now) (S.writes sink.old) (S.writes sink.new)) }
+        ensures unwritten { OnErr result (CountsUpTo (chunks_hit found.now) (S.writes sink.old) (S.writes sink.new)) }
         ensures later { S.faults sink.old ≤ S.faults sink.new }
         ensures cause { IfErr result (HasBitsCause (existence_of self.now.place) self.now.parts.slots (view S.PageSource sink.old) (view S.PageSource sink.new)) }
     {

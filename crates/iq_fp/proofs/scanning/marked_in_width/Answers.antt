@@ -1,7 +1,7 @@
 use Rattle.std.proofs.Common.{◌<◌, ◌*◌, ◌+◌, inl, refl, ◌∙◌, arith}
 use Rattle.std.proofs.lemmas.Grind.{rows}
 use Rattle.iq_pages.specs.Pages.{IsPageOf}
-use Rattle.iq_pieces.specs.Counts.{per_page}
+use Rattle.iq_pieces.specs.Counts.{per_page, pages_for}
 use Rattle.iq_pieces.specs.Faults.{CodesBelow, ArePieces}
 use Rattle.iq_pieces.proofs.Counting.{reads_on, ends_behind}
 use Rattle.iq_fp.specs.Forms.{code_width}
@@ -16,8 +16,10 @@ returns-then-not-mark-clause-cause g c =
     let fp = c.args.fp.now in
     let form = CodesBelow (code_width fp.distinct) fp.distinct in
     let here : IsPageOf (g.S.PageSource.told c.args.source.now fp.codes) c.loop-p.p c.read_page.new.into = rw (c.loop-p.invariant.reads.kept.told fp.codes) at c.in_ok-read_page.ensures.ok in
+    let within : c.loop-p.p < pages_for g.row.W fp.slots = omega (arith, c.div_ceil-p-end.ensures, c.loop-p-test.true) in
+    let needed : c.loop-p.p < pages_for (code_width fp.distinct) fp.slots = rw (← c.requires.width) within in
     let bad : ¬ (ArePieces form c.read_page.new.into c.min-here.result) = rw (← c.requires.width, ← c.requires.hits) (c.if-not-mark.ensures.bad refl) in
-    inl (refl, unsound_pieces form fp.slots (g.S.PageSource.told c.args.source.now fp.codes) c.loop-p.p c.min-here.result _ here (rw (← c.requires.width) c.min-here.ensures) bad)
+    inl (refl, needed, unsound_pieces form fp.slots (g.S.PageSource.told c.args.source.now fp.codes) c.loop-p.p c.min-here.result _ here (rw (← c.requires.width) c.min-here.ensures) bad)
 
 pub loop-p-preserved : goal.loop-p-preserved
 loop-p-preserved g c =

@@ -1,8 +1,6 @@
 use Rattle.std.proofs.lemmas.Result.{on_ok_weaker}
-use Rattle.std.proofs.Common.{◌≡◌, subst, ℕ, List, Option, sym, arith}
-use Rattle.iq_pages.specs.Pages.{Pages}
 use Rattle.iq_pieces.specs.Objects.{LoadsLast}
-use Rattle.iq_pieces.proofs.PagesFilled.{appends_none, appends_loaded}
+use Rattle.iq_pieces.proofs.PagesFilled.{appends_loaded}
 use Rattle.iq_pieces.proofs.appending.append.Goals as goal
 
 pub returns-clause-ok : goal.returns-clause-ok

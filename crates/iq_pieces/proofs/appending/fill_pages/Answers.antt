@@ -1,6 +1,6 @@
-use Rattle.std.proofs.Common.{◌≡◌, ◌≤◌, ◌<◌, ◌+◌, ◌-◌, ◌*◌, ◌/◌, ◌%◌, ℕ, min, max, length, None, ap, ◌∙◌, arith}
+use Rattle.std.proofs.Common.{◌≡◌, ◌≤◌, ◌<◌, ◌+◌, ◌-◌, ◌*◌, ◌/◌, ◌%◌, ℕ, min, length, ap, ◌∙◌, arith}
 use Rattle.std.proofs.lemmas.Grind.{rows}
-use Rattle.iq_pieces.specs.Counts.{per_page, pages_for, pages_changed}
+use Rattle.iq_pieces.specs.Counts.{per_page, pages_changed}
 use Rattle.iq_pieces.proofs.PagesFilled.{behind_next, behind_all}
 use Rattle.iq_pieces.proofs.Counting.{others_on, changed_some, counts_within, counted_next, begins_before, ends_behind, piece_before, page_within}
 use Rattle.iq_pieces.proofs.appending.fill_pages.Goals as goal

@@ -1,8 +1,8 @@
-use Rattle.std.proofs.Common.{◌≡◌, ◌<◌, ◌≤◌, ◌+◌, ◌*◌, ◌/◌, ◌%◌, ℕ, min, length, Option, ap, ap₂, ◌∙◌, subst, arith}
+use Rattle.std.proofs.Common.{◌≡◌, ◌<◌, ◌≤◌, ◌+◌, ◌*◌, ◌/◌, ℕ, length, Option, ap, ◌∙◌, subst, arith}
 use Rattle.std.proofs.lemmas.Grind.{rows}
 use Rattle.iq_pages.specs.Pages.{Pages}
 use Rattle.iq_pieces.specs.Counts.{per_page}
-use Rattle.iq_pieces.specs.Faults.{Form, form_width}
+use Rattle.iq_pieces.specs.Faults.{form_width}
 use Rattle.iq_pieces.specs.Reading.{TakesPage}
 use Rattle.iq_pieces.proofs.PagesTaken.{taken_long, first_next}
 use Rattle.iq_pieces.proofs.Counting.{reads_on, begins_before}

@@ -1,5 +1,11 @@
-use Rattle.std.proofs.Common.{◌+◌, ℕ, refl, sym, ap, ◌∙◌, arith}
+use Rattle.std.proofs.Common.{◌≡◌, ◌<◌, ◌≤◌, ◌+◌, ◌/◌, ℕ, length, refl, sym, ap, ◌∙◌, arith}
+use Rattle.std.proofs.lemmas.Grind.{rows}
+use Rattle.iq_base.specs.Cells.{width}
 use Rattle.iq_pages.specs.PageCalls.{view}
+use Rattle.iq_pieces.specs.Counts.{per_page, CountsUpTo}
+use Rattle.iq_fp.specs.declared.fp.Fp.{Fp}
+use Rattle.iq_fp.specs.Calls.{pages_written, most_written}
+use Rattle.iq_fp.proofs.Bounds.{up_to_more, written_within}
 use Rattle.iq_fp.proofs.Growth.{more_below, stands_more, known_still, more_still}
 use Rattle.iq_fp.proofs.fp.Fp.append.Goals as goal
 
@@ -42,3 +48,27 @@ returns-clause-longer g c = record {
   distinct = omega arith;
   most = omega (arith, c.in_ok-numbered.ensures.few, c.len-2.ensures);
 }
+
+pub returns-in_err-write_parts-clause-unwritten : goal.returns-in_err-write_parts-clause-unwritten
+returns-in_err-write_parts-clause-unwritten g c =
+    let self = c.args.self.now in
+    let more = length c.args.cells.now.values in
+    let grown : Fp = record self { slots = self.slots + c.len.result; distinct = self.distinct + c.len-2.result } in
+    let per : 1008 / c.width-width.result ≡ per_page (width self.kind) = ap (λ (n : ℕ). 1008 / n) c.width-width.ensures.value in
+    let positive : 0 < 1008 / c.width-width.result = grind (arith, rows) in
+    let within : pages_written self grown ≤ most_written self more =
+    written_within self grown more (omega (arith, per, positive)) (ap (λ (n : ℕ). self.slots + n) c.len.ensures) (omega arith) (omega (arith, c.in_ok-numbered.ensures.few, c.len-2.ensures)) in
+    let wrote : CountsUpTo (pages_written self grown) (g.S.PageSource.writes c.args.sink.now) (g.S.PageSource.writes c.write_parts.new.sink) = rw c.distinct_values.ensures.reads.writes at c.write_parts.ensures.unwritten in
+    up_to_more (pages_written self grown) (most_written self more) _ _ within wrote
+
+pub returns-clause-unwritten : goal.returns-clause-unwritten
+returns-clause-unwritten g c =
+    let self = c.args.self.now in
+    let more = length c.args.cells.now.values in
+    let grown : Fp = record self { slots = self.slots + c.len.result; distinct = self.distinct + c.len-2.result } in
+    let per : 1008 / c.width-width.result ≡ per_page (width self.kind) = ap (λ (n : ℕ). 1008 / n) c.width-width.ensures.value in
+    let positive : 0 < 1008 / c.width-width.result = grind (arith, rows) in
+    let within : pages_written self grown ≤ most_written self more =
+    written_within self grown more (omega (arith, per, positive)) (ap (λ (n : ℕ). self.slots + n) c.len.ensures) (omega arith) (omega (arith, c.in_ok-numbered.ensures.few, c.len-2.ensures)) in
+    let wrote : CountsUpTo (pages_written self grown) (g.S.PageSource.writes c.args.sink.now) (g.S.PageSource.writes c.write_parts.new.sink) = rw c.distinct_values.ensures.reads.writes at c.write_parts.ensures.unwritten in
+    up_to_more (pages_written self grown) (most_written self more) _ _ within wrote

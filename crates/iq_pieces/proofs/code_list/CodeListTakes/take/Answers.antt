@@ -1,6 +1,6 @@
-use Rattle.std.proofs.Common.{◌≡◌, ◌<◌, ◌+◌, ◌∷◌, ◌++◌, [], ℕ, List, length, slice_index, sym, ap, ◌∙◌, append-nil, append_assoc, rules, arith}
-use Rattle.iq_cells.specs.Codes.{code_in, codes_in}
-use Rattle.iq_pieces.proofs.PiecesTaken.{codes_none, codes_more, codes_taken, below_push}
+use Rattle.std.proofs.Common.{◌≡◌, ◌∷◌, ◌++◌, [], ℕ, List, sym, ap, ◌∙◌, append-nil, append_assoc, rules, arith}
+use Rattle.iq_cells.specs.Codes.{codes_in}
+use Rattle.iq_pieces.proofs.PiecesTaken.{codes_none, codes_more, codes_taken}
 use Rattle.iq_pieces.proofs.code_list.CodeListTakes.take.Goals as goal
 
 pub loop-i-init : goal.loop-i-init
