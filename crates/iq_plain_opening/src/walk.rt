@@ -16,7 +16,7 @@ use std::alloc::Global;
 use std::marker::Model;
 
 /// What is wrong, and the block that shows it.
-#[derive(Clone, Copy, Debug)]
+#[derive(Debug, Drop)]
 pub struct Fault {
     pub block: u32,
     pub cause: StoreCause,
@@ -30,7 +30,7 @@ impl Model for Fault {
     ghost view = { λ f. fault f.block f.cause };
 }
 
-fn fault(block: u32, cause: StoreCause) -> Fault
+fn bad(block: u32, cause: StoreCause) -> Fault
     ensures { result ≡ fault block cause }
 {
     Fault { block, cause }
@@ -53,10 +53,10 @@ fn reach_fault(count: usize, reached: &[bool], holder: u32, at: u32) -> Option<F
     ensures { result ≡ reach_fault count reached.now holder at }
 {
     if at < 4 || count <= at as usize {
-        return Some(fault(holder, StoreCause::OutOfRange));
+        return Some(bad(holder, StoreCause::OutOfRange));
     }
     if is_reached(reached, at) {
-        return Some(fault(at, StoreCause::Shared));
+        return Some(bad(at, StoreCause::Shared));
     }
     None
 }
@@ -98,7 +98,7 @@ fn visit_fault(
     if has_header(kind, at, block_of(blocks, at)) {
         None
     } else {
-        Some(fault(at, StoreCause::BadHeader))
+        Some(bad(at, StoreCause::BadHeader))
     }
 }
 
@@ -119,12 +119,12 @@ fn map_fault(
         return Ok(Some(found));
     }
     if !is_map_of(level, at, block_of(blocks, at)) {
-        return Ok(Some(fault(at, StoreCause::BadHeader)));
+        return Ok(Some(bad(at, StoreCause::BadHeader)));
     }
     if is_spare_zero(alloc, used, block_of(blocks, at))? {
         Ok(None)
     } else {
-        Ok(Some(fault(at, StoreCause::BadMap)))
+        Ok(Some(bad(at, StoreCause::BadMap)))
     }
 }
 
@@ -149,7 +149,7 @@ fn fault_at(
             if is_table(alloc, blocks, *head, before)? {
                 Ok(None)
             } else {
-                Ok(Some(fault(*head, StoreCause::BadCatalog)))
+                Ok(Some(bad(*head, StoreCause::BadCatalog)))
             }
         }
     }
@@ -219,10 +219,10 @@ fn root_opened(
 {
     let body = body_of(root);
     if root.format == 1 {
-        return Ok(Err(fault(body, StoreCause::OldFormat)));
+        return Ok(Err(bad(body, StoreCause::OldFormat)));
     }
     if blocks.len() < 4 || blocks.len() != root.count as usize {
-        return Ok(Err(fault(body, StoreCause::Size)));
+        return Ok(Err(bad(body, StoreCause::Size)));
     }
     let steps = tables_steps(alloc, blocks, body, root.tables.as_slice())?;
     walked(alloc, blocks, steps.as_slice())
@@ -237,7 +237,7 @@ pub fn plain_opened(
     ensures { IfOk result (λ outcome. outcome ≡ opened blocks.now) }
 {
     match newest(alloc, blocks)? {
-        None => Ok(Err(fault(0, StoreCause::NoRoot))),
+        None => Ok(Err(bad(0, StoreCause::NoRoot))),
         Some(root) => root_opened(alloc, blocks, &root),
     }
 }
