@@ -3,3 +3,4 @@ pub mod Fields
 pub mod Parts
 pub mod Wholes
 pub mod Loops
+pub mod FirstFault

@@ -1,6 +1,6 @@
 -- One more page, column or index in a loop.
-use Rattle.std.specs.Prelude.{◌≡◌, ℕ, suc, ◌+◌, ◌-◌, ◌<◌, ◌≤◌, List, [], ◌∷◌, ◌++◌, take, drop, length, Result, Ok, Err, IfOk}
-use Rattle.std.proofs.Common.{sym, ap, ◌∙◌, arith, append_assoc, length-append}
+use Rattle.std.specs.Prelude.{◌≡◌, ℕ, zero, suc, ◌+◌, ◌-◌, ◌<◌, ◌≤◌, List, [], ◌∷◌, ◌++◌, take, drop, length, Result, Ok, Err, IfOk}
+use Rattle.std.proofs.Common.{refl, sym, ap, ◌∙◌, arith, append_assoc, length-append}
 use Rattle.std.proofs.lemmas.List.{append-nil, take-append-drop}
 use Rattle.iq_base.specs.declared.descriptors.ColumnPart.{ColumnPart}
 use Rattle.iq_base.specs.declared.descriptors.IndexPart.{IndexPart}
@@ -67,3 +67,14 @@ unfolding indexes_of
 indexes_end old whole count i rest past so_far =
     let left : count - i ≡ 0 = omega arith in
     sym (append-nil old) ∙ ap (λ (n : ℕ). old ++ indexes_of n rest) (sym left) ∙ so_far
+
+-- how many there are
+pub length-columns_of : (n : ℕ) (bytes : List ℕ) → length (columns_of n bytes) ≡ n
+unfolding columns_of
+length-columns_of zero bytes = refl
+length-columns_of (suc n) bytes = ap suc (length-columns_of n (drop 55 bytes))
+
+pub length-indexes_of : (n : ℕ) (bytes : List ℕ) → length (indexes_of n bytes) ≡ n
+unfolding indexes_of
+length-indexes_of zero bytes = refl
+length-indexes_of (suc n) bytes = ap suc (length-indexes_of n (drop 62 bytes))

@@ -2,7 +2,7 @@
 use Rattle.std.specs.Prelude.{◌≡◌, ℕ, ◌+◌, ◌-◌, ◌*◌, ◌/◌, ◌^◌, ◌<◌, ◌≤◌, Bool, true, false, ◌&&◌, not, List, [], ◌∷◌, ◌++◌, length, drop, slice_index, nat_eq, nat_le, flat_map, if◌then◌else◌}
 use Rattle.std.proofs.Common.{refl, sym, ap, subst, ◌∙◌, arith, append_assoc, length-append}
 use Rattle.std.proofs.lemmas.List.{length-replicate}
-use Rattle.std.proofs.lemmas.Bool.{iff_false}
+use Rattle.std.proofs.lemmas.Bool.{iff_false, eq-eqb}
 use Rattle.std.specs.Prelude.{◌↔◌, IsTrue}
 use Rattle.std.specs.Cmp.Lexicographic.{pointwise, nat_list_eq_equiv}
 use Rattle.iq_base.specs.Limits.{limit_for}
@@ -13,9 +13,7 @@ use Rattle.iq_catalog.specs.Texts.{name_text, ref_text, column_text, index_text,
 use Rattle.iq_catalog.specs.Storable.{slot_limit, longest_text, has_low_fast, IsStorable}
 use Rattle.iq_catalog.specs.Pages.{zeros, page_count, filled, descriptor_bytes, joined, HasPages}
 use Rattle.iq_catalog.specs.Reading.{name_of, ref_of, columns_of, indexes_of, text_size, descriptor_of}
-use Rattle.iq_catalog.specs.declared.faults.CatalogFault.{CatalogFault}
-use Rattle.iq_catalog.specs.declared.faults.CatalogFault.TheVariants.{BadCatalog, NoMemory}
-use Rattle.iq_catalog.specs.Faults.{IsCut, no_head, no_parts, IsUnread, HasNoTable}
+use Rattle.iq_catalog.specs.FirstFault.{has_count}
 use Rattle.iq_catalog.proofs.Names.{name_parts, name_back, length-name_text}
 use Rattle.iq_catalog.proofs.Fields.{byte_behind, rest_behind, number_behind, ref_behind, length-ref_text}
 use Rattle.iq_catalog.proofs.Parts.{columns_back, indexes_back, length-columns, length-indexes}
@@ -138,13 +136,6 @@ length-text t h =
       length-indexes (length t.columns) t.indexes h.indexes,
     )
 
--- the text is long enough
-not_cut : (t : Descriptor) (rest : List ℕ) → IsStorable t → IsCut (descriptor_text t ++ rest) → ⊥
-not_cut t rest h (no_head short) = omega (arith, short, length-append (descriptor_text t) rest, length-text t h)
-not_cut t rest h (no_parts short) =
-    let head = head_reads t rest h in
-    omega (arith, short, ap (λ (n : ℕ). 55 * n) head.columns, ap (λ (n : ℕ). 62 * n) head.indexes, length-append (descriptor_text t) rest, length-text t h)
-
 length-zeros : (n : ℕ) → length (zeros n) ≡ n
 unfolding zeros
 length-zeros n = length-replicate n 0
@@ -199,13 +190,22 @@ bytes_back t bytes h is =
     let behind = behind_addresses t in
     ap (λ (b : List ℕ). descriptor_of (drop 12 b)) is ∙ ap descriptor_of behind.is ∙ text_back t behind.rest h
 
-pub bytes_long : (t : Descriptor) (bytes : List ℕ) → IsStorable t → bytes ≡ descriptor_bytes t → 12 ≤ length bytes
-bytes_long t bytes h is = omega (arith, (behind_addresses t).size, ap length is)
-
-pub bytes_not_cut : (t : Descriptor) (bytes : List ℕ) → IsStorable t → bytes ≡ descriptor_bytes t → IsCut (drop 12 bytes) → ⊥
-bytes_not_cut t bytes h is cut =
+-- and they are of as many pages as they count
+pub bytes_counted : (t : Descriptor) (bytes : List ℕ) → IsStorable t → bytes ≡ descriptor_bytes t → has_count bytes ≡ true
+unfolding descriptor_bytes
+bytes_counted t bytes h is =
     let behind = behind_addresses t in
-    not_cut t behind.rest h (subst IsCut (ap (drop 12) is ∙ behind.is) cut)
+    let head = head_reads t behind.rest h in
+    let columns : slice_index (drop 12 bytes) 31 ≡ length t.columns = ap (λ (b : List ℕ). slice_index b 31) (ap (drop 12) is ∙ behind.is) ∙ head.columns in
+    let indexes : slice_index (drop 12 bytes) 32 ≡ length t.indexes = ap (λ (b : List ℕ). slice_index b 32) (ap (drop 12) is ∙ behind.is) ∙ head.indexes in
+    let size : length (zeros 12 ++ descriptor_text t) ≡ 12 + text_size (length t.columns) (length t.indexes)
+    = omega (arith, length-append (zeros 12) (descriptor_text t), length-zeros 12, length-text t h) in
+    let whole : length bytes ≡ 1008 * page_count (12 + text_size (length t.columns) (length t.indexes))
+    = ap length is ∙ length-filled (zeros 12 ++ descriptor_text t) ∙ ap (λ (n : ℕ). 1008 * page_count n) size in
+    eq-eqb _ _ (
+    whole ∙ ap (λ (n : ℕ). 1008 * page_count (12 + text_size n (length t.indexes))) (sym columns)
+    ∙ ap (λ (n : ℕ). 1008 * page_count (12 + text_size (slice_index (drop 12 bytes) 31) n)) (sym indexes)
+    )
 
 -- a descriptor that was read is the one whose pages these are
 pub only_one : (t table : Descriptor) (pages : List (List ℕ)) (bytes text : List ℕ) → bytes ≡ joined pages → text ≡ drop 12 bytes → table ≡ descriptor_of text
@@ -213,11 +213,12 @@ pub only_one : (t table : Descriptor) (pages : List (List ℕ)) (bytes text : Li
 only_one t table pages bytes text whole behind read h has =
     sym (read ∙ ap descriptor_of behind ∙ bytes_back t bytes h (whole ∙ has))
 
--- what can't be read is no descriptor's
-pub none_unread : (e : CatalogFault) (pages : List (List ℕ)) (bytes text : List ℕ) → bytes ≡ joined pages → text ≡ drop 12 bytes → IsUnread e text → HasNoTable e pages
-none_unread (BadCatalog page) pages bytes text whole behind cut =
-    λ t h has. bytes_not_cut t bytes h (whole ∙ has) (subst IsCut behind cut)
-none_unread NoMemory pages bytes text whole behind cut = tt
+-- bytes of another number of pages than they count are no descriptor's
+pub none_uncounted : (pages : List (List ℕ)) (bytes : List ℕ) → bytes ≡ joined pages → has_count bytes ≡ false → (t : Descriptor) → IsStorable t
+    → HasPages t pages → ⊥
+none_uncounted pages bytes whole not_so t h has =
+    let so = bytes_counted t bytes h (whole ∙ has) in
+    absurd (cc)
 
 -- nor what reads as one that may not be stored
 pub none_other : (may : Bool) (table : Descriptor) (pages : List (List ℕ)) (bytes text : List ℕ) → bytes ≡ joined pages → text ≡ drop 12 bytes

@@ -4,3 +4,4 @@ pub mod Pages
 pub mod Reading
 pub mod Faults
 pub mod Sizes
+pub mod FirstFault

@@ -6,7 +6,8 @@ use std::fmt;
 /// Why pages give no descriptor.
 #[derive(Clone, Copy, Debug, PartialEq, Eq)]
 pub enum CatalogFault {
-    /// No storable descriptor has these pages. Of the number, which is to name a page, nothing is promised yet: it is 0.
+    /// No storable descriptor has these pages. The number is that of the page with the first byte that contradicts the format, and 0
+    /// where the pages aren't as many as their counts of columns and indexes ask for.
     BadCatalog { page: u32 },
     /// An allocation was refused.
     NoMemory,

@@ -1,13 +1,16 @@
 //! Pages as a descriptor.
-ghost use Rattle.std.specs.Prelude.{◌≡◌, ◌≤◌, ◌+◌, ◌*◌, [], length, IfOk, IfErr};
+ghost use Rattle.std.specs.Prelude.{◌≡◌, ◌≤◌, ◌+◌, ◌*◌, ◌/◌, [], length, slice_index, IfOk, IfErr};
 ghost use Rattle.iq_catalog.specs.Pages.{joined, HasPages};
 ghost use Rattle.iq_catalog.specs.Storable.{IsStorable};
-ghost use Rattle.iq_catalog.specs.Faults.{HasNoTable, IsUnread};
-ghost use Rattle.iq_catalog.specs.Reading.{text_of, name_of, ref_of, column_of, index_of, columns_of, indexes_of, descriptor_of};
+ghost use Rattle.iq_catalog.specs.Faults.{HasNoTable};
+ghost use Rattle.iq_catalog.specs.Reading.{text_size, text_of, name_of, ref_of, column_of, index_of, columns_of, indexes_of, descriptor_of};
+ghost use Rattle.iq_catalog.specs.FirstFault.{bad_byte, NamesPage};
+ghost use Rattle.iq_catalog.specs.declared.faults.CatalogFault.TheVariants.{BadCatalog};
 ghost use Rattle.iq_base.specs.declared.descriptors.Descriptor.{Descriptor};
 
 use crate::CatalogFault;
 use crate::codes::{MOST_NAME, index_kind_of, kind_of, number_at, second_of};
+use crate::first_fault::{bad_byte, has_count};
 use crate::pages::join;
 use crate::storable::is_storable;
 use crate::writing::descriptor_bytes;
@@ -26,49 +29,57 @@ const COLUMN: usize = 55;
 /// How many bytes an index has.
 const INDEX: usize = 62;
 
-/// Pages that can't be read. The page isn't told yet.
-const BAD: CatalogFault = CatalogFault::BadCatalog { page: 0 };
-
 /// The descriptor whose pages these are, with 0 for the three addresses at the front. Pages that no storable descriptor has are
-/// BadCatalog; which page it names isn't promised. It takes the bytes three times, and reads each a few times.
+/// BadCatalog, with the page that has the first byte that contradicts the format, and 0 where they aren't as many as they count
+/// themselves. It takes the bytes three times, and reads each a few times.
 pub fn get(alloc: Global, pages: &[Page]) -> Result<Descriptor, CatalogFault>
     ensures ok { IfOk result (λ table. IsStorable table) }
     ensures pages { IfOk result (λ table. HasPages table pages.now) }
     ensures only { IfOk result (λ table. (t : Descriptor) → IsStorable t
         → HasPages t pages.now → t ≡ table) }
     ensures err { IfErr result (λ e. HasNoTable e pages.now) }
+    ensures page { IfErr result (λ e. NamesPage e (joined pages.now)) }
 {
     let all = join(alloc, pages)?;
     let bytes = all.as_slice();
-    if bytes.len() < BEFORE {
-        return Err(BAD);
+    if !has_count(bytes) {
+        return Err(CatalogFault::BadCatalog { page: 0 });
     }
     let table = descriptor_of(alloc, bytes.split_at(BEFORE).1)?;
-    if !is_storable(&table) {
-        return Err(BAD);
-    }
     let again = descriptor_bytes(alloc, &table)?;
-    if again.as_slice() == bytes {
+    let written = again.as_slice();
+    if !is_storable(&table) {
+        return Err(contradiction(&table, written, bytes));
+    }
+    if written == bytes {
         Ok(table)
     } else {
-        Err(BAD)
+        Err(contradiction(&table, written, bytes))
+    }
+}
+
+/// The fault of bytes that aren't a storable table's as they are written again.
+fn contradiction(table: &Descriptor, again: &[u8], bytes: &[u8]) -> CatalogFault
+    requires columns { length table.now.columns ≤ 255 }
+    requires indexes { length table.now.indexes ≤ 255 }
+    requires few { length bytes.now ≤ 65536 }
+    ensures { result ≡ BadCatalog (bad_byte table.now again.now bytes.now / 1008) }
+{
+    CatalogFault::BadCatalog {
+        page: bad_byte(table, again, bytes) / 1_008,
     }
 }
 
 /// What bytes say, read as a text.
 #[tactic(auto, unfolding(crate::specs::Reading::descriptor_of))]
-fn descriptor_of(alloc: Global, text: &[u8]) -> Result<Descriptor, CatalogFault>
+fn descriptor_of(alloc: Global, text: &[u8]) -> Result<Descriptor, NoMemory>
+    requires { text_size (slice_index text.now 31) (slice_index text.now 32) ≤ length text.now }
     ensures ok { IfOk result (λ table. table ≡ descriptor_of text.now) }
-    ensures err { IfErr result (λ e. IsUnread e text.now) }
+    ensures columns { IfOk result (λ table. length table.columns ≤ 255) }
+    ensures indexes { IfOk result (λ table. length table.indexes ≤ 255) }
 {
-    if text.len() < HEAD {
-        return Err(BAD);
-    }
     let columns = text[31] as usize;
     let indexes = text[32] as usize;
-    if text.len() < HEAD + COLUMN * columns + INDEX * indexes {
-        return Err(BAD);
-    }
     Ok(Descriptor {
         name: name_of(text),
         slots: number_at(text, 33),
@@ -80,7 +91,8 @@ fn descriptor_of(alloc: Global, text: &[u8]) -> Result<Descriptor, CatalogFault>
 
 fn columns_of(alloc: Global, count: usize, bytes: &[u8]) -> Result<Listed<ColumnPart>, NoMemory>
     requires { 55 * count ≤ length bytes.now }
-    ensures { IfOk result (λ columns. columns ≡ columns_of count bytes.now) }
+    ensures ok { IfOk result (λ columns. columns ≡ columns_of count bytes.now) }
+    ensures count { IfOk result (λ columns. length columns ≡ count) }
 {
     let mut columns = Listed::new(alloc);
     let mut rest = bytes;
@@ -93,7 +105,8 @@ fn columns_of(alloc: Global, count: usize, bytes: &[u8]) -> Result<Listed<Column
 
 fn indexes_of(alloc: Global, count: usize, bytes: &[u8]) -> Result<Listed<IndexPart>, NoMemory>
     requires { 62 * count ≤ length bytes.now }
-    ensures { IfOk result (λ indexes. indexes ≡ indexes_of count bytes.now) }
+    ensures ok { IfOk result (λ indexes. indexes ≡ indexes_of count bytes.now) }
+    ensures count { IfOk result (λ indexes. length indexes ≡ count) }
 {
     let mut indexes = Listed::new(alloc);
     let mut rest = bytes;

@@ -8,7 +8,7 @@ use iq_base::{
 };
 
 /// The most columns of a table, and the most indexes.
-const MOST_PARTS: usize = 32;
+pub const MOST_PARTS: usize = 32;
 
 /// The most distinct values of an LF index.
 const MOST_DISTINCT: u32 = 1_000;
@@ -82,14 +82,14 @@ fn is_ascii(bytes: &[u8]) -> bool
     true
 }
 
-fn is_name(name: &Name) -> bool
+pub fn is_name(name: &Name) -> bool
     ensures { result ≡ is_name name.now }
 {
     let bytes = name.as_str().as_bytes();
     1 <= bytes.len() && bytes.len() <= 30 && is_ascii(bytes)
 }
 
-fn is_ref(object: Ref) -> bool
+pub fn is_ref(object: Ref) -> bool
     ensures { result ≡ is_ref object }
 {
     object.pages <= MOST_PAGES
@@ -101,7 +101,7 @@ fn is_ref(object: Ref) -> bool
         }
 }
 
-fn is_kind(kind: Kind) -> bool
+pub fn is_kind(kind: Kind) -> bool
     ensures { result ≡ is_kind kind }
 {
     match kind {
@@ -110,7 +110,7 @@ fn is_kind(kind: Kind) -> bool
     }
 }
 
-fn form_for(distinct: u32) -> u8
+pub fn form_for(distinct: u32) -> u8
     ensures { result ≡ form_for distinct }
 {
     if distinct <= 256 {
@@ -133,7 +133,7 @@ fn is_column(column: &ColumnPart) -> bool
         && is_ref(column.values)
 }
 
-fn is_second(count: usize, column: u8, kind: IndexKind, second: Option<u8>) -> bool
+pub fn is_second(count: usize, column: u8, kind: IndexKind, second: Option<u8>) -> bool
     ensures { result ≡ is_second count column kind second }
 {
     match (kind, second) {
@@ -144,7 +144,7 @@ fn is_second(count: usize, column: u8, kind: IndexKind, second: Option<u8>) -> b
     }
 }
 
-fn most_distinct(kind: IndexKind) -> u32
+pub fn most_distinct(kind: IndexKind) -> u32
     ensures { result ≡ most_distinct kind }
 {
     match kind {
@@ -187,7 +187,7 @@ fn are_indexes(count: usize, indexes: &[IndexPart]) -> bool
     true
 }
 
-fn has_column(columns: &[ColumnPart], name: &Name) -> bool
+pub fn has_column(columns: &[ColumnPart], name: &Name) -> bool
     ensures { result ≡ is_among (column_names columns.now) name.now }
 {
     for column in columns {
@@ -198,7 +198,7 @@ fn has_column(columns: &[ColumnPart], name: &Name) -> bool
     false
 }
 
-fn has_index(indexes: &[IndexPart], name: &Name) -> bool
+pub fn has_index(indexes: &[IndexPart], name: &Name) -> bool
     ensures { result ≡ is_among (index_names indexes.now) name.now }
 {
     for index in indexes {

@@ -31,8 +31,8 @@ pub fn put(alloc: Global, table: &Descriptor) -> Result<Vec<Page>, NoMemory>
 /// The bytes of the pages of a descriptor.
 #[tactic(auto, unfolding(crate::specs::Pages::descriptor_bytes, crate::specs::Texts::descriptor_text))]
 pub fn descriptor_bytes(alloc: Global, table: &Descriptor) -> Result<Vec<u8>, NoMemory>
-    requires columns { length table.now.columns ≤ 32 }
-    requires indexes { length table.now.indexes ≤ 32 }
+    requires columns { length table.now.columns ≤ 255 }
+    requires indexes { length table.now.indexes ≤ 255 }
     ensures { IfOk result (λ bytes. bytes.items ≡ descriptor_bytes table.now) }
 {
     let mut out = Vec::with_capacity(alloc, MOST_BYTES)?;
@@ -46,8 +46,8 @@ pub fn descriptor_bytes(alloc: Global, table: &Descriptor) -> Result<Vec<u8>, No
 
 #[tactic(auto, unfolding(crate::specs::Texts::head_text))]
 fn put_head(out: &mut Vec<u8>, table: &Descriptor) -> Result<(), NoMemory>
-    requires columns { length table.now.columns ≤ 32 }
-    requires indexes { length table.now.indexes ≤ 32 }
+    requires columns { length table.now.columns ≤ 255 }
+    requires indexes { length table.now.indexes ≤ 255 }
     ensures { OnOk result (out.new.items ≡ out.old.items ++ head_text table.now) }
 {
     put_name(out, &table.name)?;

@@ -6,4 +6,6 @@
 #[cfg(test)]
 mod descriptors;
 #[cfg(test)]
+mod pages;
+#[cfg(test)]
 mod tables;

@@ -1,5 +1,5 @@
-use Rattle.std.proofs.Common.{arith}
-use Rattle.iq_catalog.proofs.Loops.{columns_on, columns_end}
+use Rattle.std.proofs.Common.{ap, ◌∙◌, length, arith}
+use Rattle.iq_catalog.proofs.Loops.{columns_on, columns_end, length-columns_of}
 use Rattle.iq_catalog.proofs.reading.columns_of.Goals as goal
 
 pub loop-preserved : goal.loop-preserved
@@ -9,5 +9,10 @@ loop-preserved c = record {
   left = omega (arith, c.split_at.ensures.back_len, c.loop.invariant.left, c.loop-test.true);
 }
 
-pub returns : goal.returns
-returns c = columns_end c.loop.columns _ c.args.count c.loop.counter c.loop.rest.now c.loop-test.false c.loop.invariant.made
+pub returns-clause-ok : goal.returns-clause-ok
+returns-clause-ok c = columns_end c.loop.columns _ c.args.count c.loop.counter c.loop.rest.now c.loop-test.false c.loop.invariant.made
+
+pub returns-clause-count : goal.returns-clause-count
+returns-clause-count c =
+    ap length (columns_end c.loop.columns _ c.args.count c.loop.counter c.loop.rest.now c.loop-test.false c.loop.invariant.made)
+    ∙ length-columns_of c.args.count c.args.bytes.now
