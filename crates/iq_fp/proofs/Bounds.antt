@@ -1,8 +1,7 @@
 -- How many pages an append writes at most.
-use Rattle.std.proofs.Common.{◌≡◌, ◌≢◌, ◌<◌, ◌≤◌, ℕ, zero, suc, ◌+◌, ◌-◌, ◌*◌, ◌/◌, ◌%◌, min, inl, inr, Bool, true, false, nat_eq, if◌then◌else◌, Option, refl, sym, mul-le-mul_right, mul_comm, arith}
+use Rattle.std.proofs.Common.{◌≡◌, ◌<◌, ◌≤◌, ℕ, zero, suc, ◌+◌, ◌-◌, ◌*◌, ◌/◌, ◌%◌, min, inl, inr, Bool, true, false, nat_eq, if◌then◌else◌, Option, refl, mul-le-mul_right, arith}
 use Rattle.std.proofs.lemmas.Bool.{cases_lt}
 use Rattle.std.proofs.lemmas.Bool.Decides.{nat_tests}
-use Rattle.std.proofs.lemmas.Grind.{rows}
 use Rattle.iq_base.specs.Cells.{width}
 use Rattle.iq_pieces.specs.Counts.{per_page, pages_for, pages_changed, CountsUpTo}
 use Rattle.iq_pieces.proofs.Counting.{changed_some, counts_up, counts_same, begins_before, ends_behind}

@@ -20,7 +20,7 @@ use Rattle.iq_fp.specs.Stands.{Stands}
 use Rattle.iq_fp.specs.Calls as fps
 use Rattle.iq_fp.proofs.Growth.{stands_there, more_still}
 use Rattle.iq_table.specs.Places.{codes_of, values_of, new_part, part_at, fp_of}
-use Rattle.iq_table.specs.Calls.{IsPartGrown, ColumnsStandForMore, KeepsButColumns, HasColumnsCause, columns_read, columns_written}
+use Rattle.iq_table.specs.Calls.{IsPartGrown, ColumnsStandForMore, KeepsButColumns, HasColumnsCause, columns_read, columns_written, columns_most}
 
 -- no column has changed yet
 pub keeps_none : (place : ℕ) (a : Seen) → KeepsButColumns place 0 a a
@@ -137,6 +137,20 @@ read_first slots c parts =
     let f : ColumnPart → ℕ = λ part. fps.pages_read (fp_of 0 slots 0 part) in
     let whole : columns_read slots (take c parts ++ drop c parts) ≡ columns_read slots (take c parts) + columns_read slots (drop c parts) = sum_by-append f (take c parts) (drop c parts) in
     let same : columns_read slots (take c parts ++ drop c parts) ≡ columns_read slots parts = ap (λ (ps : List ColumnPart). columns_read slots ps) (take-append-drop c parts) in
+    omega (arith, whole, same)
+
+-- the most pages of one column more
+pub most_next : (slots more c : ℕ) (parts : List ColumnPart) → c < length parts → columns_most slots more (take (c + 1) parts) ≡ columns_most slots more (take c parts) + fps.most_written (fp_of 0 slots 0 (part_at c parts)) more
+most_next slots more c parts within =
+    let first : take (c + 1) parts ≡ take c parts ++ part_at c parts ∷ [] = take_more parts c (new_part (record { name = []; kind = Int; null = true })) within in
+    let f : ColumnPart → ℕ = λ part. fps.most_written (fp_of 0 slots 0 part) more in
+    ap (λ (ps : List ColumnPart). columns_most slots more ps) first ∙ sum_by-append f (take c parts) (part_at c parts ∷ []) ∙ (omega arith)
+
+pub most_first : (slots more c : ℕ) (parts : List ColumnPart) → columns_most slots more (take c parts) ≤ columns_most slots more parts
+most_first slots more c parts =
+    let f : ColumnPart → ℕ = λ part. fps.most_written (fp_of 0 slots 0 part) more in
+    let whole : columns_most slots more (take c parts ++ drop c parts) ≡ columns_most slots more (take c parts) + columns_most slots more (drop c parts) = sum_by-append f (take c parts) (drop c parts) in
+    let same : columns_most slots more (take c parts ++ drop c parts) ≡ columns_most slots more parts = ap (λ (ps : List ColumnPart). columns_most slots more ps) (take-append-drop c parts) in
     omega (arith, whole, same)
 
 -- a column's cause, where its objects were kept before

@@ -75,10 +75,18 @@ columns_written slots slots' (old ∷ olds) (new ∷ news) = columns.pages_writt
 abbrev pub columns_read : ℕ → List ColumnPart → ℕ
 columns_read slots parts = sum_by (λ (part : ColumnPart). columns.pages_read (fp_of 0 slots 0 part)) parts
 
+-- how many pages of columns it writes at most: of each as many as where every row has a new value
+abbrev pub columns_most : ℕ → ℕ → List ColumnPart → ℕ
+columns_most slots more parts = sum_by (λ (part : ColumnPart). columns.most_written (fp_of 0 slots 0 part) more) parts
+
 -- how many pages an append of rows writes: none without rows, else of columns and of existence
 abbrev pub append_writes : Table → Table → ℕ → ℕ
 append_writes old new zero = 0
 append_writes old new (suc more) = columns_written old.parts.slots new.parts.slots old.parts.columns new.parts.columns + chunks_changed old.parts.slots (suc more)
+
+-- how many it writes at most, whatever the rows are and wherever it ends
+abbrev pub append_most : Table → ℕ → ℕ
+append_most table more = columns_most table.parts.slots more table.parts.columns + chunks_changed table.parts.slots more
 
 -- how many it reads at most
 abbrev pub append_reads : Table → ℕ

@@ -10,7 +10,7 @@ ghost use Rattle.iq_chunks.specs.Chunks.{AppendsOnes, chunks_changed};
 ghost use Rattle.iq_table.specs.Places.{existence_of, part_at, part_kinds};
 ghost use Rattle.iq_table.specs.Limits.{limit_of, FindsRoom};
 ghost use Rattle.iq_table.specs.Table.{StandsForMore};
-ghost use Rattle.iq_table.specs.Calls.{HasGrown, AreGrown, ColumnsStandForMore, KeepsButRows, KeepsOtherTables, HasWriteCause, HasAppendCause, columns_read, columns_written, append_reads, append_writes};
+ghost use Rattle.iq_table.specs.Calls.{HasGrown, AreGrown, ColumnsStandForMore, KeepsButRows, KeepsOtherTables, HasWriteCause, HasAppendCause, columns_read, columns_written, columns_most, append_reads, append_writes, append_most};
 
 use crate::columns::append_columns;
 use crate::faults::TableFault;
@@ -48,6 +48,7 @@ impl Table {
 
         ensures reads { CountsUpTo (append_reads self.old) (S.reads sink.old) (S.reads sink.new) }
         ensures written { OnOk result (CountsMore (append_writes self.old self.new (length rows.now.rows)) (S.writes sink.old) (S.writes sink.new)) }
+        ensures unwritten { CountsUpTo (append_most self.old (length rows.now.rows)) (S.writes sink.old) (S.writes sink.new) }
         ensures later { S.faults sink.old ≤ S.faults sink.new }
         ensures cause { IfErr result (HasAppendCause self.old (length rows.now.rows) (view S.PageSource sink.old) (view S.PageSource sink.new)) }
     {
@@ -94,6 +95,7 @@ fn write_rows<S: PageSink>(
     ensures others { KeepsButRows place (length parts.now) (view S.PageSource sink.old) (view S.PageSource sink.new) }
     ensures reads { CountsUpTo (columns_read slots parts.now + 1) (S.reads sink.old) (S.reads sink.new) }
     ensures written { IfOk result (λ grown. CountsMore (columns_written slots (slots + length rows.now.rows) parts.now grown.items + chunks_changed slots (length rows.now.rows)) (S.writes sink.old) (S.writes sink.new)) }
+    ensures unwritten { CountsUpTo (columns_most slots (length rows.now.rows) parts.now + chunks_changed slots (length rows.now.rows)) (S.writes sink.old) (S.writes sink.new) }
     ensures later { S.faults sink.old ≤ S.faults sink.new }
     ensures cause { IfErr result (HasWriteCause place slots parts.now (view S.PageSource sink.old) (view S.PageSource sink.new)) }
 {

@@ -7,7 +7,7 @@ ghost use Rattle.iq_fp.specs.Forms.{code_width};
 ghost use Rattle.iq_fp.specs.Calls as fps;
 ghost use Rattle.iq_table.specs.Places.{part_at, part_kinds};
 ghost use Rattle.iq_table.specs.Limits.{FindsRoom};
-ghost use Rattle.iq_table.specs.Calls.{AreGrown, ColumnsStandForMore, KeepsButColumns, HasColumnsCause, columns_read, columns_written};
+ghost use Rattle.iq_table.specs.Calls.{AreGrown, ColumnsStandForMore, KeepsButColumns, HasColumnsCause, columns_read, columns_written, columns_most};
 
 use crate::places::fp_of;
 use iq_base::{ColumnPart, PAGE_BYTES, width};
@@ -34,6 +34,7 @@ pub(crate) fn append_columns<S: PageSink>(
     ensures others { KeepsButColumns place (length parts.now) (view S.PageSource sink.old) (view S.PageSource sink.new) }
     ensures reads { CountsUpTo (columns_read slots parts.now) (S.reads sink.old) (S.reads sink.new) }
     ensures written { IfOk result (λ grown. CountsMore (columns_written slots (slots + length rows.now.rows) parts.now grown.items) (S.writes sink.old) (S.writes sink.new)) }
+    ensures unwritten { CountsUpTo (columns_most slots (length rows.now.rows) parts.now) (S.writes sink.old) (S.writes sink.new) }
     ensures later { S.faults sink.old ≤ S.faults sink.new }
     ensures cause { IfErr result (HasColumnsCause place slots parts.now (view S.PageSource sink.old) (view S.PageSource sink.new)) }
 {
@@ -63,6 +64,7 @@ fn append_column<S: PageSink>(
     ensures others { fps.KeepsOtherObjects fp.old (view S.PageSource sink.old) (view S.PageSource sink.new) }
     ensures reads { CountsUpTo (fps.pages_read fp.old) (S.reads sink.old) (S.reads sink.new) }
     ensures written { OnOk result (CountsMore (fps.pages_written fp.old fp.new) (S.writes sink.old) (S.writes sink.new)) }
+    ensures unwritten { CountsUpTo (fps.most_written fp.old (length cells.now.values)) (S.writes sink.old) (S.writes sink.new) }
     ensures later { S.faults sink.old ≤ S.faults sink.new }
     ensures cause { IfErr result (fps.HasAppendCause fp.old (view S.PageSource sink.old) (view S.PageSource sink.new)) }
 {

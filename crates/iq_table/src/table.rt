@@ -1,5 +1,5 @@
 //! A table: its place and its descriptor.
-ghost use Rattle.std.specs.Prelude.{◌≡◌, ◌<◌, ◌≤◌, ◌+◌, ◌*◌, ℕ, [], length, map, IsTrue, OnOk, IfOk, IfErr};
+ghost use Rattle.std.specs.Prelude.{◌≡◌, ◌≢◌, false, ◌<◌, ◌≤◌, ◌+◌, ◌*◌, ℕ, [], length, map, IsTrue, OnOk, IfOk, IfErr};
 ghost use Rattle.iq_pages.specs.PageCalls.{view};
 ghost use Rattle.iq_pages.specs.Pages.{CountsMore};
 ghost use Rattle.iq_base.specs.Cells.{width};
@@ -46,7 +46,8 @@ impl Table {
 
     /// Whether rows may be put behind those of the table: their columns hold what the table's hold.
     pub fn takes(&self, rows: &Rows) -> bool
-        ensures { IsTrue result → rows.now.kinds ≡ part_kinds self.now.parts.columns }
+        ensures yes { IsTrue result → rows.now.kinds ≡ part_kinds self.now.parts.columns }
+        ensures no { result ≡ false → rows.now.kinds ≢ part_kinds self.now.parts.columns }
     {
         have_kinds(self.parts.columns.as_slice(), rows)
     }
@@ -75,7 +76,8 @@ impl Table {
 
 /// Whether columns of rows hold what columns of a table hold.
 fn have_kinds(parts: &[ColumnPart], rows: &Rows) -> bool
-    ensures { IsTrue result → rows.now.kinds ≡ part_kinds parts.now }
+    ensures yes { IsTrue result → rows.now.kinds ≡ part_kinds parts.now }
+    ensures no { result ≡ false → rows.now.kinds ≢ part_kinds parts.now }
 {
     if rows.width() != parts.len() {
         return false;

@@ -1,4 +1,4 @@
-use Rattle.std.proofs.Common.{◌≡◌, ◌≢◌, ◌≤◌, ◌+◌, ◌^◌, length, refl, sym, ap, ◌∙◌, arith}
+use Rattle.std.proofs.Common.{◌≡◌, ◌≢◌, ◌≤◌, ◌^◌, length, refl, sym, ap, ◌∙◌, arith}
 use Rattle.iq_base.specs.Cells.{width}
 use Rattle.iq_pieces.specs.Codes.{AreBelow}
 use Rattle.iq_fp.specs.Forms.{code_width, bytes_of}
