@@ -1,20 +1,40 @@
-//! Each byte of some blocks changed: what opening tells, and what the plain reading of the format tells.
+//! Each byte of some blocks changed: what opening tells, and what the plain program tells.
 use crate::images::two_tables;
-use crate::plain::plain;
 use iq_base::NoMemory;
 use iq_opening::{OpenFault, StoreCause, open};
 use iq_outside::{Block, SureDevice};
+use iq_plain_opening::plain_opened;
 use std::alloc::Global;
 use std::test::Fail;
 
+/// A cause and the block that shows it, or how many blocks are reached.
+type Told = Result<u32, (u32, StoreCause)>;
+
 /// What opening tells of blocks.
-fn told(alloc: Global, blocks: Vec<Block>) -> Option<(u32, StoreCause)> {
+fn told(alloc: Global, blocks: Vec<Block>) -> Result<Told, NoMemory> {
     if blocks.len() > 1000 {
-        return Some((0, StoreCause::Size));
+        return Err(NoMemory);
     }
     match open(alloc, &mut SureDevice::new(blocks)) {
-        Err(OpenFault::NotAStore { block, cause }) => Some((block, cause)),
-        Ok(_) | Err(OpenFault::NoMemory | OpenFault::StoreFault { .. }) => None,
+        Ok(opening) => Ok(Ok(opening.reached.count())),
+        Err(OpenFault::NotAStore { block, cause }) => Ok(Err((block, cause))),
+        Err(OpenFault::NoMemory | OpenFault::StoreFault { .. }) => Err(NoMemory),
+    }
+}
+
+/// What the plain program tells of them.
+fn told_plainly(alloc: Global, blocks: &[Block]) -> Result<Told, NoMemory> {
+    match plain_opened(alloc, blocks)? {
+        Ok(reached) => {
+            let mut count = 0u32;
+            for bit in reached.as_slice() {
+                if *bit {
+                    count = count.saturating_add(1);
+                }
+            }
+            Ok(Ok(count))
+        }
+        Err(fault) => Ok(Err((fault.block, fault.cause))),
     }
 }
 
@@ -25,15 +45,15 @@ fn both(
     at: usize,
     byte: usize,
     value: u8,
-) -> Result<(Option<(u32, StoreCause)>, Option<(u32, StoreCause)>), NoMemory> {
+) -> Result<(Told, Told), NoMemory> {
     let mut changed = blocks.clone()?;
     if let Some(block) = changed.get_mut(at) {
         if byte < 1024 {
             block[byte] = value;
         }
     }
-    let expected = plain(alloc, &changed)?;
-    Ok((told(alloc, changed), expected))
+    let expected = told_plainly(alloc, &changed)?;
+    Ok((told(alloc, changed)?, expected))
 }
 
 #[test]

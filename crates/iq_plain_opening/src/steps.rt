@@ -17,7 +17,11 @@ use std::marker::Model;
 #[derive(Drop)]
 pub enum Ask {
     /// An address that stands in a block is to lead to a block of a kind.
-    Visit { holder: u32, at: u32, kind: u8 },
+    Visit {
+        holder: u32,
+        at: u32,
+        kind: u8,
+    },
     /// It is to lead to a map of a level, of which so many places are in use.
     VisitMap {
         holder: u32,
@@ -26,7 +30,10 @@ pub enum Ask {
         used: u32,
     },
     /// The descriptor with this head is to be that of a table whose name comes behind another.
-    Table { head: u32, before: Name },
+    Table {
+        head: u32,
+        before: Name,
+    },
 }
 
 /// One step of the way.
