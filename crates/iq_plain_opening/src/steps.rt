@@ -221,7 +221,8 @@ fn push_column(
     column: &ColumnPart,
 ) -> Result<(), NoMemory>
     requires { byte ≤ 65536 }
-    ensures { OnOk result (out.new ≡ out.old ++ column_steps blocks.now numbers.now byte column.now) }
+    ensures { OnOk result (out.new ≡ out.old
+        ++ column_steps blocks.now numbers.now byte column.now) }
 {
     push_from(alloc, out, blocks, numbers, byte + 39, column.cells)?;
     push_from(alloc, out, blocks, numbers, byte + 47, column.values)
@@ -252,7 +253,8 @@ fn push_columns(
     columns: &[ColumnPart],
 ) -> Result<(), NoMemory>
     requires { length columns.now ≤ 255 }
-    ensures { OnOk result (out.new ≡ out.old ++ columns_steps blocks.now numbers.now 57 columns.now) }
+    ensures { OnOk result (out.new ≡ out.old
+        ++ columns_steps blocks.now numbers.now 57 columns.now) }
 {
     for (k, column) in columns.iter().enumerate() {
         push_column(alloc, out, blocks, numbers, 57 + 55 * k, column)?;
