@@ -1,5 +1,6 @@
 //! Each byte of some blocks changed: what opening tells, and what the plain program tells.
 use crate::images::two_tables;
+use crate::large::{one_high_object, two_descriptor_blocks};
 use iq_base::NoMemory;
 use iq_opening::{OpenFault, StoreCause, open};
 use iq_outside::{Block, SureDevice};
@@ -56,27 +57,59 @@ fn both(
     Ok((told(alloc, changed)?, expected))
 }
 
-#[test]
-fn opening_tells_what_the_format_says(rt: HostRuntime) -> Result<(), Fail> {
-    let alloc = rt.alloc();
-    let blocks = two_tables(alloc)?;
-    // The root, the descriptors, maps of several objects, and a page: each with the bytes in use.
-    let rows: [(usize, usize); 7] = [
-        (2, 48),
-        (3, 24),
-        (4, 300),
-        (7, 24),
-        (8, 20),
-        (63, 36),
-        (67, 130),
-    ];
-    for (at, end) in rows {
-        for byte in 0..end {
+/// The first byte of some blocks, each from a byte to another, at which both tell otherwise where it is 0 or 8.
+fn first_difference(
+    alloc: Global,
+    blocks: &Vec<Block>,
+    rows: &[(usize, usize, usize)],
+) -> Result<Option<(usize, usize)>, NoMemory> {
+    for (at, from, end) in rows {
+        for byte in *from..*end {
             for value in [0, 8] {
-                let (found, expected) = both(alloc, &blocks, at, byte, value)?;
-                assert_eq!(rt; found, expected, "{value} at byte {byte} of block {at}");
+                let (found, expected) = both(alloc, blocks, *at, byte, value)?;
+                if found != expected {
+                    return Ok(Some((*at, byte)));
+                }
             }
         }
     }
+    Ok(None)
+}
+
+#[test]
+fn opening_tells_what_the_definition_says(rt: HostRuntime) -> Result<(), Fail> {
+    let alloc = rt.alloc();
+    // The root, the descriptors, maps of several objects, and a page: each with the bytes in use.
+    let rows = [
+        (2, 0, 48),
+        (3, 0, 24),
+        (4, 0, 300),
+        (7, 0, 24),
+        (8, 0, 20),
+        (63, 0, 36),
+        (67, 0, 130),
+    ];
+    let blocks = two_tables(alloc)?;
+    assert_eq!(rt; first_difference(alloc, &blocks, &rows)?, None);
+    Ok(())
+}
+
+#[test]
+fn it_tells_so_of_maps_above_maps(rt: HostRuntime) -> Result<(), Fail> {
+    let alloc = rt.alloc();
+    // The reference of the cells; the map at the top, and both that it names.
+    let rows = [(4, 112, 120), (38, 8, 28), (39, 8, 20), (292, 8, 24)];
+    let blocks = one_high_object(alloc)?;
+    assert_eq!(rt; first_difference(alloc, &blocks, &rows)?, None);
+    Ok(())
+}
+
+#[test]
+fn it_tells_so_of_descriptors_of_two_blocks(rt: HostRuntime) -> Result<(), Fail> {
+    let alloc = rt.alloc();
+    // The addresses of the other blocks and the counts; the end of the first block, and the front of the second.
+    let rows = [(4, 16, 28), (4, 59, 65), (4, 1008, 1024), (5, 0, 60)];
+    let blocks = two_descriptor_blocks(alloc)?;
+    assert_eq!(rt; first_difference(alloc, &blocks, &rows)?, None);
     Ok(())
 }
