@@ -31,6 +31,15 @@ fn change(pages: &mut [Page], at: usize, bytes: &[u8]) {
     }
 }
 
+/// The pages with some edits.
+fn changed(pages: &Vec<Page>, edits: &[Edit]) -> Result<Vec<Page>, NoMemory> {
+    let mut changed = pages.clone()?;
+    for Edit(at, bytes) in edits {
+        change(&mut changed, *at, bytes);
+    }
+    Ok(changed)
+}
+
 /// What is wrong, the bytes that make it so, and the page.
 #[derive(Clone, Copy)]
 struct Row(&'static str, &'static [Edit], u32);
@@ -109,10 +118,7 @@ fn the_page_of_the_first_byte_that_contradicts_is_told(rt: HostRuntime) -> Resul
     let pages = four_pages(alloc)?;
     assert_eq!(rt; pages.len(), 4);
     for Row(told, edits, page) in rows {
-        let mut changed = pages.clone()?;
-        for Edit(at, bytes) in edits {
-            change(&mut changed, *at, bytes);
-        }
+        let changed = changed(&pages, edits)?;
         let fault = get(alloc, &changed).err();
         assert_eq!(rt; fault, Some(CatalogFault::BadCatalog { page }), "{told}");
     }

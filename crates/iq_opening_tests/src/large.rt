@@ -8,7 +8,7 @@ use std::test::Fail;
 
 /// A store of 300 blocks with a table of 255,000 slots: head 4; existence 5, 6 to 37; cells of 253 pages: the map at the top 38, the
 /// first leaf 39 with 40 to 291, the second 292 with 293; values 294, 295.
-fn one_high_object(alloc: Global) -> Result<Vec<Block>, NoMemory> {
+pub fn one_high_object(alloc: Global) -> Result<Vec<Block>, NoMemory> {
     let mut blocks = zeros(alloc, 300)?;
     root(&mut blocks, 1, 2, 300, &[4]);
     header(&mut blocks, 38, 4, 2);
@@ -36,7 +36,7 @@ fn one_high_object(alloc: Global) -> Result<Vec<Block>, NoMemory> {
 
 /// A store of 90 blocks with a table of 18 columns, without rows: blocks 4 and 5 are its descriptor, and a column has no cells and one
 /// distinct value in two blocks each, from 6 on. The text of the last column begins in block 4 and goes on in block 5.
-fn two_descriptor_blocks(alloc: Global) -> Result<Vec<Block>, NoMemory> {
+pub fn two_descriptor_blocks(alloc: Global) -> Result<Vec<Block>, NoMemory> {
     let mut blocks = zeros(alloc, 90)?;
     root(&mut blocks, 1, 2, 90, &[4]);
     let names = [

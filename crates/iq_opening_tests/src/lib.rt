@@ -1,6 +1,6 @@
 //! What no clause says of opening a store: that right stores open, and which block and cause is told of hostile ones.
 //!
-//! Below stands `iq_opening`, and nothing stands above. The images are made block by block, and each row names the block and the cause by
+//! Below stand `iq_opening` and `iq_plain_opening`, and nothing stands above. The images are made block by block, and each row names the block and the cause by
 //! the format's page, not by the program.
 #![tactic(auto)]
 
@@ -10,8 +10,6 @@ mod hostile;
 mod images;
 #[cfg(test)]
 mod large;
-#[cfg(test)]
-mod plain;
 #[cfg(test)]
 mod stores;
 #[cfg(test)]

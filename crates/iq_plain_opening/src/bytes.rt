@@ -1,5 +1,5 @@
 //! Bytes and numbers of blocks, where what is missing is 0.
-ghost use Rattle.std.specs.Prelude.{◌≡◌, ◌≤◌, ◌<◌, ◌+◌, ◌*◌, ◌^◌, drop, take, slice_index, IfOk};
+ghost use Rattle.std.specs.Prelude.{◌≡◌, ◌≤◌, ◌<◌, ◌+◌, ◌*◌, ◌^◌, drop, take, length, slice_index, IfOk};
 ghost use Rattle.iq_outside.specs.Devices.{block_of};
 ghost use Rattle.iq_block_store.specs.Frames.{number_at, numbers_at, has_header};
 ghost use Rattle.iq_root.specs.Roots.{long_at};
@@ -32,6 +32,17 @@ pub fn behind(bytes: &[u8], i: usize) -> &[u8]
 {
     if i <= bytes.len() {
         bytes.split_at(i).1
+    } else {
+        &[]
+    }
+}
+
+/// The numbers from a place on.
+pub fn rest(numbers: &[u32], i: usize) -> &[u32]
+    ensures { result.now ≡ drop i numbers.now }
+{
+    if i <= numbers.len() {
+        numbers.split_at(i).1
     } else {
         &[]
     }
@@ -84,15 +95,11 @@ pub fn long_at(bytes: &[u8], i: usize) -> u64
 }
 
 /// So many numbers of 4 bytes each, from a place on.
-pub fn numbers_at(
-    alloc: Global,
-    bytes: &[u8],
-    i: usize,
-    count: usize,
-) -> Result<Vec<u32>, NoMemory>
+pub fn numbers_at(alloc: Global, bytes: &[u8], i: usize, count: usize) -> Result<Vec<u32>, NoMemory>
     requires place { i ≤ 1020 }
     requires few { count ≤ 252 }
-    ensures { IfOk result (λ numbers. numbers.items ≡ numbers_at bytes.now i count) }
+    ensures ok { IfOk result (λ numbers. numbers.items ≡ numbers_at bytes.now i count) }
+    ensures count { IfOk result (λ numbers. length numbers.items ≡ count) }
 {
     let mut numbers = Vec::new(alloc);
     for k in 0..count {

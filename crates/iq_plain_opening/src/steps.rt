@@ -17,7 +17,11 @@ use std::marker::Model;
 #[derive(Drop)]
 pub enum Ask {
     /// An address that stands in a block is to lead to a block of a kind.
-    Visit { holder: u32, at: u32, kind: u8 },
+    Visit {
+        holder: u32,
+        at: u32,
+        kind: u8,
+    },
     /// It is to lead to a map of a level, of which so many places are in use.
     VisitMap {
         holder: u32,
@@ -26,7 +30,10 @@ pub enum Ask {
         used: u32,
     },
     /// The descriptor with this head is to be that of a table whose name comes behind another.
-    Table { head: u32, before: Name },
+    Table {
+        head: u32,
+        before: Name,
+    },
 }
 
 /// One step of the way.
@@ -214,7 +221,8 @@ fn push_column(
     column: &ColumnPart,
 ) -> Result<(), NoMemory>
     requires { byte ≤ 65536 }
-    ensures { OnOk result (out.new ≡ out.old ++ column_steps blocks.now numbers.now byte column.now) }
+    ensures { OnOk result (out.new ≡ out.old
+        ++ column_steps blocks.now numbers.now byte column.now) }
 {
     push_from(alloc, out, blocks, numbers, byte + 39, column.cells)?;
     push_from(alloc, out, blocks, numbers, byte + 47, column.values)
@@ -245,7 +253,8 @@ fn push_columns(
     columns: &[ColumnPart],
 ) -> Result<(), NoMemory>
     requires { length columns.now ≤ 255 }
-    ensures { OnOk result (out.new ≡ out.old ++ columns_steps blocks.now numbers.now 57 columns.now) }
+    ensures { OnOk result (out.new ≡ out.old
+        ++ columns_steps blocks.now numbers.now 57 columns.now) }
 {
     for (k, column) in columns.iter().enumerate() {
         push_column(alloc, out, blocks, numbers, 57 + 55 * k, column)?;

@@ -111,20 +111,17 @@ fn comes_behind(before: &Name, name: &Name) -> bool
 
 /// Whether the descriptor with this head is that of a table whose name comes behind another.
 #[tactic(auto, unfolding(iq_opening::specs::Tables::table_at))]
-pub fn is_table(
-    alloc: Global,
-    blocks: &[Block],
-    head: u32,
-    before: &Name,
-) -> Result<bool, NoMemory>
-    ensures { IfOk result (λ right. right
-        ≡ is_table coded before.now (more_of (block_of blocks.now head)) (pages_at blocks.now head)) }
+pub fn is_table(alloc: Global, blocks: &[Block], head: u32, before: &Name) -> Result<bool, NoMemory>
+    ensures { IfOk result (λ right. right ≡ is_table coded before.now
+        (more_of (block_of blocks.now head)) (pages_at blocks.now head)) }
 {
     let right = is_descriptor(alloc, blocks, head)?;
     let table = table_at(alloc, blocks, head)?;
     let more = numbers_at(alloc, block_of(blocks, head), 16, 3)?;
-    Ok(right
-        && are_packed(more.as_slice())
-        && comes_behind(before, &table.name)
-        && fits_slots(&table))
+    Ok(
+        right
+            && are_packed(more.as_slice())
+            && comes_behind(before, &table.name)
+            && fits_slots(&table),
+    )
 }

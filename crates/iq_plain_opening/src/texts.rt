@@ -12,6 +12,8 @@ use std::alloc::Global;
 #[tactic(auto, unfolding(iq_catalog::specs::Reading::descriptor_of))]
 pub fn descriptor_of(alloc: Global, text: &[u8]) -> Result<Descriptor, NoMemory>
     ensures ok { IfOk result (λ table. table ≡ descriptor_of text.now) }
+    ensures columns { IfOk result (λ table. length table.columns ≤ 255) }
+    ensures indexes { IfOk result (λ table. length table.indexes ≤ 255) }
 {
     let columns = byte_at(text, 31) as usize;
     let indexes = byte_at(text, 32) as usize;
@@ -25,7 +27,8 @@ pub fn descriptor_of(alloc: Global, text: &[u8]) -> Result<Descriptor, NoMemory>
 }
 
 fn columns_of(alloc: Global, count: usize, bytes: &[u8]) -> Result<Listed<ColumnPart>, NoMemory>
-    ensures { IfOk result (λ columns. columns ≡ columns_of count bytes.now) }
+    ensures ok { IfOk result (λ columns. columns ≡ columns_of count bytes.now) }
+    ensures count { IfOk result (λ columns. length columns ≡ count) }
 {
     let mut columns = Listed::new(alloc);
     let mut rest = bytes;
@@ -37,7 +40,8 @@ fn columns_of(alloc: Global, count: usize, bytes: &[u8]) -> Result<Listed<Column
 }
 
 fn indexes_of(alloc: Global, count: usize, bytes: &[u8]) -> Result<Listed<IndexPart>, NoMemory>
-    ensures { IfOk result (λ indexes. indexes ≡ indexes_of count bytes.now) }
+    ensures ok { IfOk result (λ indexes. indexes ≡ indexes_of count bytes.now) }
+    ensures count { IfOk result (λ indexes. length indexes ≡ count) }
 {
     let mut indexes = Listed::new(alloc);
     let mut rest = bytes;

@@ -4,7 +4,7 @@ ghost use Rattle.iq_opening.specs.Walk.{fault, is_reached, reach_fault, is_map_o
 ghost use Rattle.iq_opening.specs.Opening.{body_of, none_reached, root_opened, opened};
 ghost use Rattle.iq_opening.specs.Steps.{visit, visit_map};
 
-use crate::bytes::{block_of, has_header, number_at, numbers_at};
+use crate::bytes::{block_of, has_header, number_at, numbers_at, rest};
 use crate::roots::newest;
 use crate::steps::{Ask, Step, tables_steps};
 use crate::tables::{is_table, is_zero};
@@ -74,22 +74,12 @@ fn is_spare_zero(alloc: Global, used: u32, block: &[u8]) -> Result<bool, NoMemor
     ensures { IfOk result (λ right. right ≡ is_spare_zero used block.now) }
 {
     let places = numbers_at(alloc, block, 16, 252)?;
-    let spare = if (used as usize) < places.len() {
-        places.as_slice().split_at(used as usize).1
-    } else {
-        &[]
-    };
-    Ok(is_zero(spare))
+    Ok(is_zero(rest(places.as_slice(), used as usize)))
 }
 
 /// What is wrong with a step that is to lead to a block of a kind.
-fn visit_fault(
-    blocks: &[Block],
-    reached: &[bool],
-    holder: u32,
-    at: u32,
-    kind: u8,
-) -> Option<Fault>
+#[tactic(auto, unfolding(iq_opening::specs::Walk::fault_at))]
+fn visit_fault(blocks: &[Block], reached: &[bool], holder: u32, at: u32, kind: u8) -> Option<Fault>
     ensures { result ≡ fault_at blocks.now reached.now (visit holder at kind) }
 {
     if let Some(found) = reach_fault(blocks.len(), reached, holder, at) {
@@ -103,6 +93,7 @@ fn visit_fault(
 }
 
 /// What is wrong with a step that is to lead to a map.
+#[tactic(auto, unfolding(iq_opening::specs::Walk::fault_at))]
 fn map_fault(
     alloc: Global,
     blocks: &[Block],
@@ -129,6 +120,7 @@ fn map_fault(
 }
 
 /// What is wrong with a step, where some blocks are reached already.
+#[tactic(auto, unfolding(iq_opening::specs::Walk::fault_at))]
 fn fault_at(
     alloc: Global,
     blocks: &[Block],
@@ -184,6 +176,7 @@ fn none_reached(alloc: Global, count: usize) -> Result<Vec<bool>, NoMemory>
 }
 
 /// The blocks that are reached after some steps, or the first fault.
+#[tactic(auto, unfolding(iq_opening::specs::Walk::walked))]
 fn walked(
     alloc: Global,
     blocks: &[Block],
