@@ -48,6 +48,7 @@ fn a_horizon_frees_what_was_dropped_up_to_it(rt: HostRuntime) -> Result<(), Fail
         log.push(version);
     }
     assert_eq!(rt; (log.base(), log.latest()), (0, 3));
+    assert!(rt; log.is_within(free.count()));
     log.reclaim(2, &mut free);
     assert_eq!(rt; (log.base(), log.latest()), (2, 3));
     assert_eq!(rt; log.version(2).heads.as_slice(), [6].as_slice());
@@ -62,6 +63,7 @@ fn a_horizon_frees_what_was_dropped_up_to_it(rt: HostRuntime) -> Result<(), Fail
         ],
         [Some(11), Some(12), Some(21), Some(22), None]
     );
+    assert!(rt; log.is_within(free.count()));
     log.reclaim(3, &mut free);
     assert_eq!(rt; (log.base(), log.latest()), (3, 3));
     assert_eq!(rt;

@@ -1,5 +1,5 @@
 //! The list of kept versions.
-ghost use Rattle.std.specs.Prelude.{◌≡◌, ◌≤◌, ◌<◌, ◌+◌, ◌-◌, ◌^◌, [], ◌∷◌, length, drop, slice_index_or, IfOk, OnOk, OnErr};
+ghost use Rattle.std.specs.Prelude.{◌≡◌, ◌≤◌, ◌<◌, ◌+◌, ◌-◌, ◌^◌, [], ◌∷◌, ◌↔◌, length, drop, slice_index_or, All, IsTrue, IfOk, OnOk, OnErr};
 ghost use Rattle.iq_free_list.specs.FreeList.{put_all};
 ghost use Rattle.iq_version_log.specs.Versions.{LogState, latest_of, IsOpened, IsKept, KeepsMore, Reclaims, AreWithin, dropped_in, waiting};
 
@@ -116,6 +116,14 @@ impl VersionLog {
         count
     }
 
+    /// Whether all blocks that wait are below a number.
+    pub fn is_within(&self, count: u32) -> bool
+        ensures { IsTrue result → AreWithin count (drop 1 self.now.versions) }
+    {
+        let (_, behind) = self.versions.as_slice().split_at(1);
+        behind.iter().all(|version| are_below(version.dropped.as_slice(), count))
+    }
+
     /// Frees what the commits up to a horizon dropped, and keeps the versions from it on. It takes no memory.
     pub fn reclaim(&mut self, horizon: u64, free: &mut FreeList)
         requires kept { IsKept self.old horizon }
@@ -129,6 +137,13 @@ impl VersionLog {
         self.versions.drop_front(n);
         self.base = horizon;
     }
+}
+
+/// Whether blocks are below a number.
+fn are_below(blocks: &[u32], count: u32) -> bool
+    ensures { IsTrue result ↔ All (λ b. b < count) blocks.now }
+{
+    blocks.iter().all(|block| *block < count)
 }
 
 /// Gives what some commits dropped to the free blocks.

@@ -1,0 +1,11 @@
+use Rattle.std.proofs.Common.{◌∙◌, ap₂, List, Bool}
+use Rattle.iq_bitmap.specs.Bits.{either}
+use Rattle.iq_planes.specs.Planes.{GivesPlane}
+use Rattle.iq_cmp.specs.Relations.{planes_of}
+use Rattle.iq_cmp.proofs.cmp.Cmp.in_either.Goals as goal
+
+pub returns-clause-rows : goal.returns-clause-rows
+returns-clause-rows g c = λ vs ws h.
+    let more : GivesPlane (g.S.PageSource.told c.args.source.now c.args.self.now.object) 3 c.args.self.now.slots c.args.other c.in_ok-more.more =
+    rw (c.read_plane.ensures.reads.kept.told c.args.self.now.object) at c.in_ok-more.ensures.bits in
+    c.or_with.ensures ∙ ap₂ (λ (xs ys : List Bool). either xs ys) (c.in_ok-bits.ensures.bits (planes_of vs ws) h.held) (more (planes_of vs ws) h.held)

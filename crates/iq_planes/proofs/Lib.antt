@@ -1,0 +1,3 @@
+pub mod PlaneReads
+pub mod PutRows
+pub mod Growth
