@@ -33,9 +33,12 @@ fn value(i: u32, second: bool) -> Value {
 fn cells(alloc: Global, from: u32, to: u32, second: bool) -> Result<Cells, Fail> {
     let mut cells = Cells::new(alloc, Kind::Big);
     for i in from..to {
-        cells
-            .push(&value(i, second))
-            .map_err(|_| "no cell of the kind")?;
+        match value(i, second) {
+            Value::Int(number) => cells
+                .push_number(number)
+                .map_err(|_| "no number of the kind")?,
+            Value::Null | Value::Text(_) => cells.push_null()?,
+        }
     }
     Ok(cells)
 }

@@ -25,7 +25,11 @@ fn asked(
     snapshot: u64,
 ) -> Result<String, Fail> {
     let wanted = names(alloc, texts)?;
-    assert!(rt; table.sessions() > s && table.held(s).len() + wanted.len() <= 64);
+    assert!(rt; table.sessions() > s);
+    let count = table.held(s).len() + wanted.len();
+    if 64 < count {
+        panic!(rt; "{count} names");
+    }
     match table.acquire(wanted.as_slice(), s, snapshot) {
         Ok(()) => {
             let mut held = String::new(alloc);
@@ -72,6 +76,7 @@ fn a_name_is_held_by_one_session_and_not_past_its_snapshot(rt: HostRuntime) -> R
         asked(&rt, alloc, &mut table, &["u", "t"], 1, 0)?.as_str(),
         "t u "
     );
+    assert!(rt; table.sessions() > 1);
     table.drop_all(1);
     assert_eq!(rt;
         asked(&rt, alloc, &mut table, &["t"], 2, 0)?.as_str(),
