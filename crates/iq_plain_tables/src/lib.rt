@@ -1,0 +1,10 @@
+//! What the statements on tables mean, computed over plain tables in memory: slow, short, and the meaning itself.
+//!
+//! Contracts see a table as its columns, indexes and slots; each function computes the definition that its contract names. Below stand
+//! `iq_statements` with those definitions, and what it stands on; above stand plain runs and the tests that compare the product with
+//! them. Its one law: no function knows more of a statement than its definition says.
+#![tactic(auto)]
+
+mod conditions;
+
+pub use conditions::{column_place, keeps, truth};
