@@ -6,5 +6,11 @@
 #![tactic(auto)]
 
 mod conditions;
+mod databases;
+mod effects;
+mod tables;
 
 pub use conditions::{column_place, keeps, truth};
+pub use databases::{copied_tables, table_of, with_seen};
+pub use effects::{count, effect};
+pub use tables::{PlainSlot, PlainTable, PlainTables};
