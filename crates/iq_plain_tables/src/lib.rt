@@ -5,9 +5,11 @@
 //! them. Its one law: no function knows more of a statement than its definition says.
 #![tactic(auto)]
 
+mod carrying;
 mod conditions;
 mod databases;
 mod effects;
+mod ordering;
 mod tables;
 
 pub use conditions::{column_place, keeps, truth};
