@@ -1,2 +1,4 @@
 pub mod Levels
+pub mod Ordered
 pub mod Putting
+pub mod Quotes

@@ -1,10 +1,10 @@
 //! What a write leaves, and how many rows it puts in, removes or changes.
-ghost use Rattle.std.specs.Prelude.{◌≡◌, ◌≤◌, ◌<◌, ◌^◌, ℕ, map, fold, length, unwrap_or, IfOk};
+ghost use Rattle.std.specs.Prelude.{◌≡◌, ◌≤◌, ◌<◌, ◌^◌, Some, map, length, IfOk};
 ghost use Rattle.std.specs.Option.{option_copied, option_and_then};
 ghost use Rattle.iq_conditions.specs.Servers.{column_place};
 ghost use Rattle.iq_statements.specs.Tables.{Table, with_changed, with_rows, with_index, without_index};
 ghost use Rattle.iq_statements.specs.Rows.{kept_rows};
-ghost use Rattle.iq_statements.specs.Effects.{effect, count, count_true, true_rows, without_row, without_rows, put_at, with_change, changed_row, changed_rows, with_changes, index_on};
+ghost use Rattle.iq_statements.specs.Effects.{effect, count, count_true, true_rows, without_row, without_rows, put_at, changed_row, changed_rows, with_changes, index_on};
 ghost use Rattle.iq_statements.specs.Statements.{HasWriteMeaning};
 ghost use Rattle.iq_plain_tables.specs.Plain.{rows_in, HasFewWriteParts};
 
@@ -311,17 +311,25 @@ fn changed_row(
     Ok(form)
 }
 
-/// A row with one place put anew.
+/// A row with one place put anew, where it has that place.
 fn put_at(place: Option<usize>, value: &Value, row: Row) -> Row
     ensures { result ≡ put_at place value.now row }
 {
-    let Some(place) = place else {
-        return row;
-    };
-    let mut values = row.into_vec();
-    if place < values.len() {
-        values[place] = value.again();
+    match place {
+        None => row,
+        Some(place) => put_in_row(place, value, row),
     }
+}
+
+#[tactic(auto, using(crate::proofs::Putting::put_at_set, crate::proofs::Putting::put_at_past))]
+fn put_in_row(place: usize, value: &Value, row: Row) -> Row
+    ensures { result ≡ put_at (Some place) value.now row }
+{
+    if row.len() <= place {
+        return row;
+    }
+    let mut values = row.into_vec();
+    values[place] = value.again();
     Listed::from_vec(values)
 }
 

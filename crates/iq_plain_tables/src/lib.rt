@@ -5,13 +5,19 @@
 //! them. Its one law: no function knows more of a statement than its definition says.
 #![tactic(auto)]
 
+mod answers;
 mod carrying;
 mod conditions;
 mod databases;
 mod effects;
+mod groups;
+mod listing;
 mod ordering;
+mod plans;
+mod servers;
 mod tables;
 
+pub use answers::answer;
 pub use conditions::{column_place, keeps, truth};
 pub use databases::{copied_tables, table_of, with_seen};
 pub use effects::{count, effect};

@@ -10,8 +10,8 @@ use iq_base::{Column, IndexKind, IndexSpec, Listed, Name, NoMemory, Row, Value};
 use std::alloc::Global;
 use std::marker::Model;
 
-/// A table has fewer slots than this, so that 32 bits number them. More would need more memory than there is.
-pub const MOST_SLOTS: usize = 4_294_967_296;
+/// A table has fewer slots and fewer indexes than this, so that 32 bits number them. More would need more memory than there is.
+const NUMBERED: usize = 4_294_967_296;
 
 /// A row that was put into a table, and whether it is still there.
 #[derive(Debug, Drop)]
@@ -29,7 +29,7 @@ impl Model for PlainSlot {
 }
 
 /// A table: its columns, its indexes in order of creation, and each row that was put into it, in order. 8 bits number its columns,
-/// and 32 its slots.
+/// and 32 its indexes and its slots.
 #[derive(Debug, Drop)]
 pub struct PlainTable {
     name: Name,
@@ -46,7 +46,7 @@ impl Model for PlainTable {
 
     ghost view = { λ it. record { name = it.name; columns = it.columns; indexes = it.indexes; slots = it.slots } };
 
-    ghost invariant = { λ it. (length it.columns ≤ 256) × (length it.slots < 2 ^ 32) };
+    ghost invariant = { λ it. (length it.columns ≤ 256) × (length it.indexes < 2 ^ 32) × (length it.slots < 2 ^ 32) };
 }
 
 /// Tables with ascending names.
@@ -111,6 +111,7 @@ impl PlainTable {
         slots: Listed<PlainSlot>,
     ) -> PlainTable
         requires columns { length columns ≤ 256 }
+        requires indexes { length indexes < 2 ^ 32 }
         requires slots { length slots < 2 ^ 32 }
         ensures { result ≡ record { name = name; columns = columns; indexes = indexes; slots = slots } }
     {
@@ -152,7 +153,8 @@ impl PlainTable {
 
     /// The indexes in order of creation.
     pub fn indexes(&self) -> &[IndexSpec]
-        ensures { result.now ≡ self.now.indexes }
+        ensures value { result.now ≡ self.now.indexes }
+        ensures few { length result.now < 2 ^ 32 }
     {
         self.indexes.as_slice()
     }
@@ -185,7 +187,7 @@ impl PlainTable {
     ) -> Result<PlainTable, NoMemory>
         ensures { IfOk result (λ table. table ≡ record self.now { slots = slots }) }
     {
-        if slots.len() >= MOST_SLOTS {
+        if slots.len() >= NUMBERED {
             return Err(NoMemory);
         }
         Ok(PlainTable {
@@ -211,6 +213,9 @@ impl PlainTable {
     {
         let mut indexes = copied_indexes(alloc, self.indexes.as_slice())?;
         indexes.push(index)?;
+        if indexes.len() >= NUMBERED {
+            return Err(NoMemory);
+        }
         Ok(PlainTable {
             name: self.name.again(),
             columns: copied_columns(alloc, self.columns.as_slice())?,
