@@ -1,3 +1,4 @@
+pub mod Firsts
 pub mod Levels
 pub mod Ordered
 pub mod Putting

@@ -207,12 +207,14 @@ impl PlainTable {
         self.with_slots(alloc, slots)
     }
 
-    /// The table with an index more.
-    pub fn with_index(&self, alloc: Global, index: IndexSpec) -> Result<PlainTable, NoMemory>
-        ensures { IfOk result (λ table. table ≡ with_index index self.now) }
+    /// The table with these indexes in place of its own.
+    fn with_indexes(
+        &self,
+        alloc: Global,
+        indexes: Listed<IndexSpec>,
+    ) -> Result<PlainTable, NoMemory>
+        ensures { IfOk result (λ table. table ≡ record self.now { indexes = indexes }) }
     {
-        let mut indexes = copied_indexes(alloc, self.indexes.as_slice())?;
-        indexes.push(index)?;
         if indexes.len() >= NUMBERED {
             return Err(NoMemory);
         }
@@ -224,16 +226,21 @@ impl PlainTable {
         })
     }
 
+    /// The table with an index more.
+    pub fn with_index(&self, alloc: Global, index: IndexSpec) -> Result<PlainTable, NoMemory>
+        ensures { IfOk result (λ table. table ≡ with_index index self.now) }
+    {
+        let mut indexes = copied_indexes(alloc, self.indexes.as_slice())?;
+        indexes.push(index)?;
+        self.with_indexes(alloc, indexes)
+    }
+
     /// The table without the index of a name.
     pub fn without_index(&self, alloc: Global, name: &Name) -> Result<PlainTable, NoMemory>
         ensures { IfOk result (λ table. table ≡ without_index name.now self.now) }
     {
-        Ok(PlainTable {
-            name: self.name.again(),
-            columns: copied_columns(alloc, self.columns.as_slice())?,
-            indexes: other_indexes(alloc, name, self.indexes.as_slice())?,
-            slots: copied_slots(alloc, self.slots.as_slice())?,
-        })
+        let indexes = other_indexes(alloc, name, self.indexes.as_slice())?;
+        self.with_indexes(alloc, indexes)
     }
 
     /// Whether it has an index of this name.

@@ -1,0 +1,429 @@
+//! The first refusal of a statement.
+ghost use Rattle.std.specs.Prelude.{◌≡◌, ◌≤◌, ◌<◌, ◌^◌, [], ◌∷◌, length, is_some, nat_le, not, IfOk};
+ghost use Rattle.std.specs.Option.{option_copied};
+ghost use Rattle.iq_base.specs.declared.limits.TheConstants.{MOST_TABLES};
+ghost use Rattle.iq_statements.specs.Tables.{Table, table_of, has_index};
+ghost use Rattle.iq_statements.specs.Checks.{found_if, first_refusal, first_found};
+ghost use Rattle.iq_statements.specs.Named.{named, fitting, on_table, bad_row, first_bad_row, create_checks, index_checks, delete_checks, update_checks, select_checks, write_checks, most_indexes};
+ghost use Rattle.iq_statements.specs.Effects.{changed_rows};
+ghost use Rattle.iq_statements.specs.Room.{at_table, append_checks, new_index_checks, write_room};
+ghost use Rattle.iq_statements.specs.Statements.{statement_checks, room_checks};
+ghost use Rattle.iq_plain_tables.specs.Plain.{HasFewParts, HasFewWriteParts};
+
+use crate::carrying::tests_in;
+use crate::databases::table_of;
+use crate::effects::changed_rows;
+use crate::fits::{first_change_refusal, first_item_mismatch, first_test_mismatch};
+use crate::naming::{first_of, no_change, no_indexed, no_selected, no_tested, not_grouped};
+use crate::room::{append_refusal, new_index_refusal};
+use crate::tables::PlainTable;
+use iq_ast::{Change, Cond, Select, Statement, Write};
+use iq_base::{Column, IndexKind, MOST_TABLES, Name, NoMemory, Refusal, Row, Value};
+use iq_cells::first_bad_field;
+use std::alloc::Global;
+
+/// How many indexes a table can have.
+const MOST_INDEXES: usize = 32;
+
+/// The first refusal of what a statement names and of its values, which comes before its locks.
+pub fn statement_refusal(
+    alloc: Global,
+    statement: &Statement,
+    tables: &[PlainTable],
+) -> Result<Option<Refusal>, NoMemory>
+    requires { HasFewParts statement.now }
+    ensures { IfOk result (λ found. found ≡ first_refusal (statement_checks statement.now tables.now)) }
+{
+    match statement {
+        Statement::Write(write) => write_refusal(alloc, write, tables),
+        Statement::Select(select) => {
+            query_refusal(alloc, select, table_of(tables, &select.table))
+        }
+        Statement::Begin
+        | Statement::Commit
+        | Statement::Rollback
+        | Statement::Savepoint(_)
+        | Statement::BackTo(_)
+        | Statement::Release(_)
+        | Statement::Sync => Ok(None),
+    }
+}
+
+/// The first refusal that comes after a statement's locks, for want of room or by an index that doesn't fit.
+pub fn room_refusal(
+    alloc: Global,
+    statement: &Statement,
+    tables: &[PlainTable],
+) -> Result<Option<Refusal>, NoMemory>
+    ensures { IfOk result (λ found. found ≡ first_refusal (room_checks statement.now tables.now)) }
+{
+    match statement {
+        Statement::Write(write) => write_room_refusal(alloc, write, tables),
+        Statement::Select(_)
+        | Statement::Begin
+        | Statement::Commit
+        | Statement::Rollback
+        | Statement::Savepoint(_)
+        | Statement::BackTo(_)
+        | Statement::Release(_)
+        | Statement::Sync => Ok(None),
+    }
+}
+
+fn write_room_refusal(
+    alloc: Global,
+    write: &Write,
+    tables: &[PlainTable],
+) -> Result<Option<Refusal>, NoMemory>
+    ensures { IfOk result (λ found. found ≡ first_refusal (write_room write.now tables.now)) }
+{
+    match write {
+        Write::CreateTable { .. }
+        | Write::DropTable { .. }
+        | Write::DropIndex { .. }
+        | Write::Load { .. }
+        | Write::Delete { .. } => Ok(None),
+        Write::CreateIndex {
+            name,
+            kind,
+            table,
+            column,
+            second,
+        } => new_index_room(alloc, name, *kind, column, second, table_of(tables, table)),
+        Write::Insert { table, rows } => {
+            insert_room(alloc, rows.as_slice(), table_of(tables, table))
+        }
+        Write::Update {
+            table,
+            changes,
+            cond,
+        } => update_room(alloc, changes.as_slice(), cond, table_of(tables, table)),
+    }
+}
+
+fn new_index_room(
+    alloc: Global,
+    name: &Name,
+    kind: IndexKind,
+    column: &Name,
+    second: &Option<Name>,
+    table: Option<&PlainTable>,
+) -> Result<Option<Refusal>, NoMemory>
+    ensures { IfOk result (λ found. found ≡ first_refusal (at_table (option_copied table.entry) (new_index_checks name.now kind column.now second.now))) }
+{
+    match table {
+        None => Ok(None),
+        Some(table) => new_index_refusal(alloc, name, kind, column, second, table),
+    }
+}
+
+fn insert_room(
+    alloc: Global,
+    rows: &[Row],
+    table: Option<&PlainTable>,
+) -> Result<Option<Refusal>, NoMemory>
+    ensures { IfOk result (λ found. found ≡ first_refusal (at_table (option_copied table.entry) (append_checks rows.now))) }
+{
+    match table {
+        None => Ok(None),
+        Some(table) => append_refusal(alloc, rows, table),
+    }
+}
+
+fn update_room(
+    alloc: Global,
+    changes: &[Change],
+    cond: &Option<Cond>,
+    table: Option<&PlainTable>,
+) -> Result<Option<Refusal>, NoMemory>
+    ensures { IfOk result (λ found. found ≡ first_refusal (at_table (option_copied table.entry) (λ (t : Table). append_checks (changed_rows changes.now cond.now t) t))) }
+{
+    match table {
+        None => Ok(None),
+        Some(table) => {
+            let rows = changed_rows(alloc, changes, cond, table)?;
+            append_refusal(alloc, rows.as_slice(), table)
+        }
+    }
+}
+
+/// The first refusal of what a write names and of its values.
+fn write_refusal(
+    alloc: Global,
+    write: &Write,
+    tables: &[PlainTable],
+) -> Result<Option<Refusal>, NoMemory>
+    requires { HasFewWriteParts write.now }
+    ensures { IfOk result (λ found. found ≡ first_refusal (write_checks write.now tables.now)) }
+{
+    match write {
+        Write::CreateTable { name, .. } => Ok(create_refusal(name, tables)),
+        Write::DropTable { name } => Ok(no_table(name, table_of(tables, name))),
+        Write::CreateIndex {
+            name,
+            table,
+            column,
+            second,
+            ..
+        } => Ok(new_index_named(table, name, column, second, table_of(tables, table))),
+        Write::DropIndex { table, name } => Ok(old_index_named(
+            table,
+            name,
+            table_of(tables, table),
+        )),
+        Write::Insert { table, rows } => {
+            Ok(insert_refusal(table, rows.as_slice(), table_of(tables, table)))
+        }
+        Write::Load { table, .. } => Ok(no_table(table, table_of(tables, table))),
+        Write::Delete { table, cond } => {
+            delete_refusal(alloc, table, cond, table_of(tables, table))
+        }
+        Write::Update {
+            table,
+            changes,
+            cond,
+        } => update_refusal(
+            alloc,
+            table,
+            changes.as_slice(),
+            cond,
+            table_of(tables, table),
+        ),
+    }
+}
+
+/// The refusal of a new table: of its name, and of one table more.
+#[tactic(auto, using(crate::proofs::Firsts::or_none))]
+fn create_refusal(name: &Name, tables: &[PlainTable]) -> Option<Refusal>
+    ensures { result ≡ first_refusal (create_checks name.now tables.now) }
+{
+    first_of(exists_refusal(name, tables), catalog_refusal(tables))
+}
+
+fn exists_refusal(name: &Name, tables: &[PlainTable]) -> Option<Refusal>
+    ensures { result ≡ found_if (is_some (table_of name.now tables.now)) (Refusal.TableExists name.now) }
+{
+    match table_of(tables, name) {
+        None => None,
+        Some(_) => Some(Refusal::TableExists { name: name.again() }),
+    }
+}
+
+fn catalog_refusal(tables: &[PlainTable]) -> Option<Refusal>
+    ensures { result ≡ found_if (nat_le MOST_TABLES (length tables.now)) Refusal.CatalogFull }
+{
+    if MOST_TABLES <= tables.len() {
+        Some(Refusal::CatalogFull)
+    } else {
+        None
+    }
+}
+
+/// The refusal of a table that isn't there.
+fn no_table(name: &Name, table: Option<&PlainTable>) -> Option<Refusal>
+    ensures { result ≡ first_refusal (on_table name.now (option_copied table.entry) (λ (t : Table). [])) }
+{
+    match table {
+        None => Some(Refusal::NoTable { name: name.again() }),
+        Some(_) => None,
+    }
+}
+
+/// The refusal of a new index on a table: of its columns, of its name, and of one index more.
+#[tactic(auto, using(crate::proofs::Firsts::or_none))]
+fn new_index_named(
+    table_name: &Name,
+    name: &Name,
+    column: &Name,
+    second: &Option<Name>,
+    table: Option<&PlainTable>,
+) -> Option<Refusal>
+    ensures { result ≡ first_refusal (on_table table_name.now (option_copied table.entry) (index_checks name.now column.now second.now)) }
+{
+    match table {
+        None => Some(Refusal::NoTable {
+            name: table_name.again(),
+        }),
+        Some(table) => first_of(
+            no_indexed(table.columns(), column, second),
+            first_of(
+                index_exists(table.has_index(name), name),
+                indexes_full(table.indexes().len()),
+            ),
+        ),
+    }
+}
+
+fn index_exists(found: bool, name: &Name) -> Option<Refusal>
+    ensures { result ≡ found_if found (Refusal.IndexExists name.now) }
+{
+    found.then_some(Refusal::IndexExists { name: name.again() })
+}
+
+fn indexes_full(indexes: usize) -> Option<Refusal>
+    ensures { result ≡ found_if (nat_le most_indexes indexes) Refusal.CatalogFull }
+{
+    if MOST_INDEXES <= indexes {
+        Some(Refusal::CatalogFull)
+    } else {
+        None
+    }
+}
+
+/// The refusal of an index that is to be dropped, and isn't there.
+fn old_index_named(table_name: &Name, name: &Name, table: Option<&PlainTable>) -> Option<Refusal>
+    ensures { result ≡ first_refusal (on_table table_name.now (option_copied table.entry) (λ (t : Table). named (found_if (not (has_index name.now t)) (Refusal.NoIndex name.now)) ∷ [])) }
+{
+    match table {
+        None => Some(Refusal::NoTable {
+            name: table_name.again(),
+        }),
+        Some(table) => {
+            if table.has_index(name) {
+                None
+            } else {
+                Some(Refusal::NoIndex { name: name.again() })
+            }
+        }
+    }
+}
+
+/// The refusal of an INSERT.
+#[tactic(auto, using(crate::proofs::Firsts::or_none))]
+fn insert_refusal(name: &Name, rows: &[Row], table: Option<&PlainTable>) -> Option<Refusal>
+    requires { length rows.now ≤ 16777216 }
+    ensures { result ≡ first_refusal (on_table name.now (option_copied table.entry) (λ (t : Table). fitting (first_bad_row 1 t.columns rows.now) ∷ [])) }
+{
+    match table {
+        None => Some(Refusal::NoTable { name: name.again() }),
+        Some(table) => first_bad_row(table.columns(), rows),
+    }
+}
+
+/// The first bad row, rows and fields counted from 1.
+fn first_bad_row(columns: &[Column], rows: &[Row]) -> Option<Refusal>
+    requires few_columns { length columns.now ≤ 256 }
+    requires few_rows { length rows.now ≤ 16777216 }
+    ensures { result ≡ first_bad_row 1 columns.now rows.now }
+{
+    for (i, row) in rows.iter().enumerate() {
+        if let Some(refusal) = bad_row(i as u32 + 1, columns, row.as_slice()) {
+            return Some(refusal);
+        }
+    }
+    None
+}
+
+fn bad_row(row: u32, columns: &[Column], fields: &[Value]) -> Option<Refusal>
+    requires { length columns.now ≤ 256 }
+    ensures { result ≡ bad_row row (first_bad_field columns.now fields.now) }
+{
+    match first_bad_field(columns, fields) {
+        None => None,
+        Some(bad) => Some(Refusal::BadRow {
+            row,
+            field: bad.field,
+            cause: bad.cause,
+        }),
+    }
+}
+
+/// The refusal of a DELETE.
+fn delete_refusal(
+    alloc: Global,
+    name: &Name,
+    cond: &Option<Cond>,
+    table: Option<&PlainTable>,
+) -> Result<Option<Refusal>, NoMemory>
+    ensures { IfOk result (λ found. found ≡ first_refusal (on_table name.now (option_copied table.entry) (delete_checks cond.now))) }
+{
+    match table {
+        None => Ok(Some(Refusal::NoTable { name: name.again() })),
+        Some(table) => delete_on(alloc, cond, table),
+    }
+}
+
+#[tactic(auto, using(crate::proofs::Firsts::or_none, crate::proofs::Firsts::names_tested))]
+fn delete_on(
+    alloc: Global,
+    cond: &Option<Cond>,
+    table: &PlainTable,
+) -> Result<Option<Refusal>, NoMemory>
+    ensures { IfOk result (λ found. found ≡ first_refusal (delete_checks cond.now table.now)) }
+{
+    let tests = tests_in(alloc, cond)?;
+    let unnamed = no_tested(table.columns(), tests.as_slice());
+    let unfit = first_test_mismatch(table.columns(), tests.as_slice());
+    Ok(first_of(unnamed, unfit))
+}
+
+/// The refusal of an UPDATE.
+fn update_refusal(
+    alloc: Global,
+    name: &Name,
+    changes: &[Change],
+    cond: &Option<Cond>,
+    table: Option<&PlainTable>,
+) -> Result<Option<Refusal>, NoMemory>
+    ensures { IfOk result (λ found. found ≡ first_refusal (on_table name.now (option_copied table.entry) (update_checks changes.now cond.now))) }
+{
+    match table {
+        None => Ok(Some(Refusal::NoTable { name: name.again() })),
+        Some(table) => update_on(alloc, changes, cond, table),
+    }
+}
+
+#[tactic(auto, using(crate::proofs::Firsts::or_none, crate::proofs::Firsts::names_tested, crate::proofs::Firsts::first_found_append))]
+fn update_on(
+    alloc: Global,
+    changes: &[Change],
+    cond: &Option<Cond>,
+    table: &PlainTable,
+) -> Result<Option<Refusal>, NoMemory>
+    ensures { IfOk result (λ found. found ≡ first_refusal (update_checks changes.now cond.now table.now)) }
+{
+    let tests = tests_in(alloc, cond)?;
+    let unnamed = first_of(
+        no_change(table.columns(), changes),
+        no_tested(table.columns(), tests.as_slice()),
+    );
+    let unfit = first_of(
+        first_change_refusal(table.columns(), changes),
+        first_test_mismatch(table.columns(), tests.as_slice()),
+    );
+    Ok(first_of(unnamed, unfit))
+}
+
+/// The refusal of a query.
+fn query_refusal(
+    alloc: Global,
+    select: &Select,
+    table: Option<&PlainTable>,
+) -> Result<Option<Refusal>, NoMemory>
+    ensures { IfOk result (λ found. found ≡ first_refusal (on_table select.now.table (option_copied table.entry) (select_checks select.now))) }
+{
+    match table {
+        None => Ok(Some(Refusal::NoTable {
+            name: select.table.again(),
+        })),
+        Some(table) => select_on(alloc, select, table),
+    }
+}
+
+#[tactic(auto, using(crate::proofs::Firsts::or_none))]
+fn select_on(
+    alloc: Global,
+    select: &Select,
+    table: &PlainTable,
+) -> Result<Option<Refusal>, NoMemory>
+    ensures { IfOk result (λ found. found ≡ first_refusal (select_checks select.now table.now)) }
+{
+    let tests = tests_in(alloc, &select.cond)?;
+    let unnamed = no_selected(table.columns(), select, tests.as_slice());
+    let unfit = first_of(
+        first_item_mismatch(table.columns(), select.items.as_slice()),
+        first_test_mismatch(table.columns(), tests.as_slice()),
+    );
+    let ungrouped = not_grouped(alloc, table.columns(), select)?;
+    Ok(first_of(unnamed, first_of(unfit, ungrouped)))
+}
