@@ -21,11 +21,11 @@ or_assoc (Some refusal) b c = refl
 -- the first refusal in a list and one behind it
 pub first_found_append : {X : Type 0} (test : X → Option Refusal) (xs ys : List X) → first_found test (xs ++ ys) ≡ option_or (first_found test xs) (first_found test ys)
 first_found_append test [] ys = refl
-first_found_append test (x ∷ xs) ys = step (test x) (first_found_append test xs ys)
+first_found_append test (x ∷ xs) ys = step (test x) _ _ _ (first_found_append test xs ys)
   where
-    step : (a : Option Refusal) {b c d : Option Refusal} → b ≡ option_or c d → option_or a b ≡ option_or (option_or a c) d
-    step None is = is
-    step (Some refusal) is = refl
+    step : (a b c d : Option Refusal) → b ≡ option_or c d → option_or a b ≡ option_or (option_or a c) d
+    step None b c d is = is
+    step (Some refusal) b c d is = refl
 
 -- the names in a condition are those of its tests
 pub names_tested : (cond : Option Cond) → names_in cond ≡ flat_map test_names (tests_in cond)

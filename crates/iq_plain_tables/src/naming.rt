@@ -1,6 +1,8 @@
 //! The first name of a statement that is no column.
 ghost use Rattle.std.specs.Prelude.{◌≡◌, map, flat_map, IfOk};
-ghost use Rattle.std.specs.List.{filter_map};
+ghost use Rattle.std.specs.List.{filter_map, list_any};
+ghost use Rattle.iq_base.specs.Shorts.{Name};
+ghost use Rattle.iq_conditions.specs.Servers.{same_name};
 ghost use Rattle.std.specs.Option.{option_copied, option_or};
 ghost use Rattle.iq_ast.specs.declared.statements.Order.{Order};
 ghost use Rattle.iq_ast.specs.declared.statements.Change.{Change};
@@ -154,13 +156,21 @@ pub fn no_indexed(columns: &[Column], column: &Name, second: &Option<Name>) -> O
 fn not_in(group: &[Name], name: &Name) -> Option<Refusal>
     ensures { result ≡ not_in group.now name.now }
 {
-    if group.iter().any(|other| other == name) {
-        None
-    } else {
-        Some(Refusal::NotGrouped {
-            column: name.again(),
-        })
-    }
+    not_grouped_if(!is_in(group, name), name)
+}
+
+fn is_in(group: &[Name], name: &Name) -> bool
+    ensures { result ≡ list_any (λ (n : Name). same_name n name.now) group.now }
+{
+    group.iter().any(|other| *other == *name)
+}
+
+fn not_grouped_if(found: bool, name: &Name) -> Option<Refusal>
+    ensures { result ≡ found_if found (Refusal.NotGrouped name.now) }
+{
+    found.then_some(Refusal::NotGrouped {
+        column: name.again(),
+    })
 }
 
 fn plain_name(item: &Item) -> Option<&Name>

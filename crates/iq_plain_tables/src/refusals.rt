@@ -2,6 +2,7 @@
 ghost use Rattle.std.specs.Prelude.{◌≡◌, ◌≤◌, ◌<◌, ◌^◌, [], ◌∷◌, length, is_some, nat_le, not, IfOk};
 ghost use Rattle.std.specs.Option.{option_copied};
 ghost use Rattle.iq_base.specs.declared.limits.TheConstants.{MOST_TABLES};
+ghost use Rattle.iq_cells.specs.Fields.{first_bad_field};
 ghost use Rattle.iq_statements.specs.Tables.{Table, table_of, has_index};
 ghost use Rattle.iq_statements.specs.Checks.{found_if, first_refusal, first_found};
 ghost use Rattle.iq_statements.specs.Named.{named, fitting, on_table, bad_row, first_bad_row, create_checks, index_checks, delete_checks, update_checks, select_checks, write_checks, most_indexes};
@@ -410,7 +411,6 @@ fn query_refusal(
     }
 }
 
-#[tactic(auto, using(crate::proofs::Firsts::or_none))]
 fn select_on(
     alloc: Global,
     select: &Select,
@@ -425,5 +425,5 @@ fn select_on(
         first_test_mismatch(table.columns(), tests.as_slice()),
     );
     let ungrouped = not_grouped(alloc, table.columns(), select)?;
-    Ok(first_of(unnamed, first_of(unfit, ungrouped)))
+    Ok(first_of(unnamed, first_of(unfit, first_of(ungrouped, None))))
 }

@@ -39,12 +39,19 @@ fn passes_limit(limit: u32, slots: usize, more: usize) -> bool
 }
 
 /// The rows of all slots, those of removed ones too, and some rows more.
-fn all_rows_and(alloc: Global, slots: &[PlainSlot], more: &[Row]) -> Result<Listed<Row>, NoMemory>
-    ensures { IfOk result (λ rows. rows ≡ map (λ (slot : Slot). slot.row) slots.now ++ more.now) }
+fn all_rows_and(alloc: Global, table: &PlainTable, more: &[Row]) -> Result<Listed<Row>, NoMemory>
+    ensures { IfOk result (λ rows. rows ≡ all_rows table.now ++ more.now) }
 {
-    let mut rows = slot_rows(alloc, slots)?;
+    let mut rows = all_rows(alloc, table)?;
     push_rows(alloc, &mut rows, more)?;
     Ok(rows)
+}
+
+/// The rows of all slots.
+fn all_rows(alloc: Global, table: &PlainTable) -> Result<Listed<Row>, NoMemory>
+    ensures { IfOk result (λ rows. rows ≡ all_rows table.now) }
+{
+    slot_rows(alloc, table.slots())
 }
 
 fn slot_rows(alloc: Global, slots: &[PlainSlot]) -> Result<Listed<Row>, NoMemory>
@@ -126,7 +133,6 @@ fn first_too_many(
 }
 
 /// The refusal of rows that are appended: the table's limit, and then its Low Fast indexes, the oldest first.
-#[tactic(auto, using(crate::proofs::Firsts::or_none))]
 pub fn append_refusal(
     alloc: Global,
     rows: &[Row],
@@ -136,11 +142,9 @@ pub fn append_refusal(
 {
     let limit = row_limit(table.columns(), table.has_low_fast());
     let full = table_full(limit, table.slots().len(), rows.len());
-    let all = all_rows_and(alloc, table.slots(), rows)?;
-    Ok(first_of(
-        full,
-        first_too_many(alloc, all.as_slice(), table.indexes())?,
-    ))
+    let all = all_rows_and(alloc, table, rows)?;
+    let many = first_too_many(alloc, all.as_slice(), table.indexes())?;
+    Ok(first_of(full, first_of(many, None)))
 }
 
 /// The refusal of the row limit of a table that gets a Low Fast index.
@@ -165,7 +169,6 @@ fn second_column<'a>(columns: &'a [Column], second: &Option<Name>) -> Option<&'a
 }
 
 /// The refusal of a new index: the limit with it, its columns, and its distinct values.
-#[tactic(auto, using(crate::proofs::Firsts::or_none))]
 pub fn new_index_refusal(
     alloc: Global,
     name: &Name,
@@ -183,8 +186,8 @@ pub fn new_index_refusal(
         column_named(table.columns(), column),
         second_column(table.columns(), second),
     );
-    let rows = slot_rows(alloc, table.slots())?;
+    let rows = all_rows(alloc, table)?;
     let index = index_on(name, kind, column, second, table);
     let many = too_many(alloc, rows.as_slice(), &index)?;
-    Ok(first_of(full, first_of(unfit, many)))
+    Ok(first_of(full, first_of(unfit, first_of(many, None))))
 }
