@@ -1,5 +1,5 @@
 -- The first refusal of two lists put together, and of the names in a condition.
-use Rattle.std.proofs.Common.{◌≡◌, List, [], ◌∷◌, ◌++◌, refl, ap, arith}
+use Rattle.std.proofs.Common.{◌≡◌, List, [], ◌∷◌, ◌++◌, refl}
 use Rattle.std.specs.Prelude.{Option, Some, None, flat_map}
 use Rattle.std.specs.Option.{option_or}
 use Rattle.iq_base.specs.declared.refusals.Refusal.{Refusal}

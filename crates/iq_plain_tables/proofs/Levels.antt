@@ -6,7 +6,7 @@ use Rattle.iq_ast.specs.declared.conditions.Cond as conds
 use Rattle.iq_ast.specs.declared.conditions.Cond.TheBlock.{hidden-the_row-Cond-0}
 use denote.Hole.Carrier.{hidden}
 use Rattle.iq_truth.specs.declared.truth.Truth.{Truth}
-use Rattle.iq_truth.specs.Truths.{truth_and, truth_or, truth_not}
+use Rattle.iq_truth.specs.Truths.{truth_and, truth_or}
 use Rattle.iq_conditions.specs.Conditions.{Levels, cond_fold, row_fold, all_truths, any_truth}
 
 -- a row of conditions gives what its list gives

@@ -1,5 +1,5 @@
 -- One place put anew.
-use Rattle.std.proofs.Common.{◌≡◌, ◌<◌, ◌≤◌, ℕ, zero, suc, List, [], ◌∷◌, length, set, refl, ap, arith}
+use Rattle.std.proofs.Common.{◌≡◌, ◌≤◌, ℕ, zero, suc, List, [], ◌∷◌, length, set, refl, ap, arith}
 use Rattle.std.specs.Prelude.{Some}
 use Rattle.iq_base.specs.declared.values.Value.{Value}
 use Rattle.iq_statements.specs.Effects.{put_at}

@@ -5,11 +5,11 @@ ghost use Rattle.iq_base.specs.declared.limits.TheConstants.{MOST_TABLES};
 ghost use Rattle.iq_cells.specs.Fields.{first_bad_field};
 ghost use Rattle.iq_statements.specs.Tables.{Table, table_of, has_index};
 ghost use Rattle.iq_statements.specs.Checks.{found_if, first_refusal, first_found};
-ghost use Rattle.iq_statements.specs.Named.{named, fitting, on_table, bad_row, first_bad_row, create_checks, index_checks, delete_checks, update_checks, select_checks, write_checks, most_indexes};
+ghost use Rattle.iq_statements.specs.Named.{named, fitting, on_table, bad_row, first_bad_row, create_checks, index_checks, delete_checks, update_checks, select_checks, tests_in, write_checks, most_indexes};
 ghost use Rattle.iq_statements.specs.Effects.{changed_rows};
 ghost use Rattle.iq_statements.specs.Room.{at_table, append_checks, new_index_checks, write_room};
 ghost use Rattle.iq_statements.specs.Statements.{statement_checks, room_checks};
-ghost use Rattle.iq_plain_tables.specs.Plain.{HasFewParts, HasFewWriteParts};
+ghost use Rattle.iq_plain_tables.specs.Plain.{HasFewParts, HasFewWriteParts, select_found, select_unfit};
 
 use crate::carrying::tests_in;
 use crate::databases::table_of;
@@ -18,7 +18,7 @@ use crate::fits::{first_change_refusal, first_item_mismatch, first_test_mismatch
 use crate::naming::{first_of, no_change, no_indexed, no_selected, no_tested, not_grouped};
 use crate::room::{append_refusal, new_index_refusal};
 use crate::tables::PlainTable;
-use iq_ast::{Change, Cond, Select, Statement, Write};
+use iq_ast::{Change, Cond, Select, Statement, Test, Write};
 use iq_base::{Column, IndexKind, MOST_TABLES, Name, NoMemory, Refusal, Row, Value};
 use iq_cells::first_bad_field;
 use std::alloc::Global;
@@ -419,11 +419,31 @@ fn select_on(
     ensures { IfOk result (λ found. found ≡ first_refusal (select_checks select.now table.now)) }
 {
     let tests = tests_in(alloc, &select.cond)?;
-    let unnamed = no_selected(table.columns(), select, tests.as_slice());
-    let unfit = first_of(
-        first_item_mismatch(table.columns(), select.items.as_slice()),
-        first_test_mismatch(table.columns(), tests.as_slice()),
-    );
     let ungrouped = not_grouped(alloc, table.columns(), select)?;
-    Ok(first_of(unnamed, first_of(unfit, first_of(ungrouped, None))))
+    Ok(select_found(table.columns(), select, tests.as_slice(), ungrouped))
+}
+
+/// The refusal of a query by its tests, and by what was found of its groups.
+fn select_found(
+    columns: &[Column],
+    select: &Select,
+    tests: &[Test],
+    ungrouped: Option<Refusal>,
+) -> Option<Refusal>
+    requires { tests.now ≡ tests_in select.now.cond }
+    ensures { result ≡ select_found columns.now select.now ungrouped }
+{
+    let unnamed = no_selected(columns, select, tests);
+    let unfit = select_unfit(columns, select, tests);
+    first_of(unnamed, first_of(unfit, first_of(ungrouped, None)))
+}
+
+fn select_unfit(columns: &[Column], select: &Select, tests: &[Test]) -> Option<Refusal>
+    requires { tests.now ≡ tests_in select.now.cond }
+    ensures { result ≡ select_unfit columns.now select.now }
+{
+    first_of(
+        first_item_mismatch(columns, select.items.as_slice()),
+        first_test_mismatch(columns, tests),
+    )
 }

@@ -1,4 +1,4 @@
-use Rattle.std.proofs.Common.{rules, ◌≡◌, ap, List}
+use Rattle.std.proofs.Common.{rules, ap, List}
 use Rattle.std.specs.Prelude.{Bool}
 use Rattle.iq_ast.specs.declared.conditions.Test.{Test}
 use Rattle.iq_conditions.specs.Carried.{carry_levels}

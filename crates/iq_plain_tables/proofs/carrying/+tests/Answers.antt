@@ -1,6 +1,4 @@
-use Rattle.std.proofs.Common.{rules, ◌≡◌, ap, List}
-use Rattle.std.specs.Prelude.{Bool}
-use Rattle.iq_ast.specs.declared.conditions.Test.{Test}
+use Rattle.std.proofs.Common.{rules}
 use Rattle.iq_conditions.specs.Conditions.{test_levels}
 use Rattle.iq_plain_tables.proofs.Levels.{not_fold, and_fold, or_fold}
 use Rattle.iq_plain_tables.proofs.carrying.+tests.Goals as goal

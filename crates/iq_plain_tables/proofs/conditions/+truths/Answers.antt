@@ -1,4 +1,4 @@
-use Rattle.std.proofs.Common.{rules, ◌≡◌, ◌∙◌, ap, map}
+use Rattle.std.proofs.Common.{rules}
 use Rattle.iq_conditions.specs.Conditions.{cond_truth, truth_levels}
 use Rattle.iq_statements.specs.Rows.{value_named}
 use Rattle.iq_plain_tables.proofs.Levels.{not_fold, and_fold, or_fold, and_more, or_more}

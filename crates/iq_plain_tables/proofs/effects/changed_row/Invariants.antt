@@ -1,6 +1,5 @@
 use Rattle.std.proofs.Common.{◌≡◌, drop}
-use Rattle.std.specs.List.{fold}
-use Rattle.iq_statements.specs.Effects.{with_change, changed_row}
+use Rattle.iq_statements.specs.Effects.{changed_row}
 use Rattle.iq_plain_tables.proofs.effects.changed_row.Given as goal
 
 abbrev pub invariant-loop-change : goal.invariant-loop-change

@@ -1,4 +1,4 @@
-use Rattle.std.proofs.Common.{◌≡◌, map, drop}
+use Rattle.std.proofs.Common.{◌≡◌, drop}
 use Rattle.iq_statements.specs.Checks.{first_found}
 use Rattle.iq_statements.specs.Fits.{test_mismatch}
 use Rattle.iq_plain_tables.proofs.fits.first_test_mismatch.Given as goal

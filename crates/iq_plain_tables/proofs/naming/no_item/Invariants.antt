@@ -1,4 +1,4 @@
-use Rattle.std.proofs.Common.{◌≡◌, map, drop}
+use Rattle.std.proofs.Common.{◌≡◌, drop}
 use Rattle.iq_statements.specs.Checks.{first_found}
 use Rattle.std.specs.List.{filter_map}
 use Rattle.iq_statements.specs.Named.{no_column, item_column}

@@ -1,4 +1,4 @@
-use Rattle.std.proofs.Common.{◌≡◌, map, drop}
+use Rattle.std.proofs.Common.{◌≡◌, drop}
 use Rattle.iq_statements.specs.Checks.{first_found}
 use Rattle.iq_statements.specs.Named.{no_column}
 use Rattle.iq_plain_tables.proofs.naming.no_name.Given as goal

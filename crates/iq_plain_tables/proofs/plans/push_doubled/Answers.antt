@@ -1,10 +1,7 @@
 -- One turn writes the text before the next quote and two quotes; what is left has none.
-use Rattle.std.proofs.Common.{rules, ◌≡◌, ◌≢◌, ◌∷◌, [], ◌++◌, ℕ, ◌<◌, length, get_or, arith, lit<}
-use Rattle.std.specs.Prelude.{flat_map}
-use Rattle.std.specs.String.{string_bytes}
+use Rattle.std.proofs.Common.{rules, ◌≡◌, ◌∷◌, ◌++◌, arith}
 use Rattle.std.proofs.lemmas.Grind.{common_steps}
 use Rattle.std.proofs.lemmas.Str.Pattern.{split_parts}
-use Rattle.iq_conditions.specs.PlanTexts.{quoted_byte}
 use Rattle.iq_plain_tables.proofs.Quotes.{HasNoQuote, doubled_without, doubled_split}
 use Rattle.iq_plain_tables.proofs.plans.push_doubled.Goals as goal
 

@@ -1,4 +1,4 @@
-use Rattle.std.proofs.Common.{◌≡◌, map, drop}
+use Rattle.std.proofs.Common.{◌≡◌, drop}
 use Rattle.iq_statements.specs.Checks.{first_found}
 use Rattle.iq_statements.specs.Room.{too_many}
 use Rattle.iq_plain_tables.proofs.room.first_too_many.Given as goal
