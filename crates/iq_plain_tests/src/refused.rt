@@ -40,13 +40,21 @@ fn queries_are_refused_for_names_and_classes(rt: HostRuntime) -> Result<(), Fail
     same(&rt, &found, &Some(Refusal::NoColumn { name: name("c")? }))?;
     let query = all_where(alloc, Some(compare("a", Op::Eq, text("1")?)?))?;
     let found = statement_refusal(alloc, &Statement::Select(query), tables.as_slice())?;
-    same(&rt, &found, &Some(Refusal::TypeMismatch { column: name("a")? }))?;
+    same(
+        &rt,
+        &found,
+        &Some(Refusal::TypeMismatch { column: name("a")? }),
+    )?;
     let mut items = Listed::new(alloc);
     items.push(Item::CountAll)?;
     items.push(Item::Plain(name("b")?))?;
     let query = select(alloc, items, None)?;
     let found = statement_refusal(alloc, &Statement::Select(query), tables.as_slice())?;
-    same(&rt, &found, &Some(Refusal::NotGrouped { column: name("b")? }))?;
+    same(
+        &rt,
+        &found,
+        &Some(Refusal::NotGrouped { column: name("b")? }),
+    )?;
     let query = all_where(alloc, Some(compare("a", Op::Eq, Value::Int(1))?))?;
     let fine = statement_refusal(alloc, &Statement::Select(query), tables.as_slice())?;
     assert!(rt; fine.is_none());
@@ -68,7 +76,11 @@ fn a_long_text_of_set_is_refused(rt: HostRuntime) -> Result<(), Fail> {
         cond: None,
     });
     let found = statement_refusal(alloc, &update, tables.as_slice())?;
-    same(&rt, &found, &Some(Refusal::TextTooLong { column: name("b")? }))?;
+    same(
+        &rt,
+        &found,
+        &Some(Refusal::TextTooLong { column: name("b")? }),
+    )?;
     assert!(rt; room_refusal(alloc, &update, tables.as_slice())?.is_none());
     Ok(())
 }
@@ -80,7 +92,11 @@ fn indexes_are_refused_by_name_and_by_column(rt: HostRuntime) -> Result<(), Fail
     let unfit = Statement::Write(new_index(IndexKind::Hng, "b")?);
     assert!(rt; statement_refusal(alloc, &unfit, tables.as_slice())?.is_none());
     let found = room_refusal(alloc, &unfit, tables.as_slice())?;
-    same(&rt, &found, &Some(Refusal::IndexUnfit { column: name("b")? }))?;
+    same(
+        &rt,
+        &found,
+        &Some(Refusal::IndexUnfit { column: name("b")? }),
+    )?;
     let low_fast = Statement::Write(new_index(IndexKind::Lf, "b")?);
     assert!(rt; room_refusal(alloc, &low_fast, tables.as_slice())?.is_none());
     let drop = Statement::Write(Write::DropIndex {
