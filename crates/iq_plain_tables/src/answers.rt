@@ -9,13 +9,14 @@ ghost use Rattle.iq_statements.specs.Named.{is_grouped, members_of};
 ghost use Rattle.iq_statements.specs.Answers.{answer, answer_at, rows_at, groups_of, group_order, projected, item_out, alone};
 
 use crate::conditions::value_named;
+use crate::copies::copied_row;
 use crate::databases::table_of;
-use crate::effects::true_rows;
 use crate::groups::{greatest_of, groups_by, least_of, present_values, sum_out_of};
 use crate::listing::{is_grouped, members_of};
 use crate::ordering::{Group, copied_group, first_row, in_order};
 use crate::plans::plan_texts;
-use crate::tables::{PlainTable, copied_row};
+use crate::rows::true_rows;
+use crate::tables::PlainTable;
 use iq_ast::{Item, Select};
 use iq_base::{Column, Listed, NoMemory, Row};
 use iq_model::{Answer, AnswerRows, Out, out_of};

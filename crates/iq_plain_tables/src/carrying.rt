@@ -8,7 +8,7 @@ ghost use Rattle.iq_conditions.specs.Conditions.{tests_of, joined, cond_fold};
 ghost use Rattle.iq_conditions.specs.Carried.{test_under, carry_all, carry_levels, carried_tests, as_comparisons, without_nulls, planned_tests};
 ghost use Rattle.iq_statements.specs.Named.{tests_in};
 
-use crate::tables::copied_row;
+use crate::copies::copied_row;
 use iq_ast::{Cond, Op, Test};
 use iq_base::{Listed, Name, NoMemory, Value};
 use iq_truth::{is_null, negated};

@@ -9,8 +9,8 @@ ghost use Rattle.iq_statements.specs.Groups.{key_of, keys_of, rows_of_key, group
 ghost use Rattle.iq_statements.specs.Answers.{sum_out};
 
 use crate::conditions::value_named;
+use crate::copies::copied_row;
 use crate::ordering::{Group, key_order, put_key};
-use crate::tables::copied_row;
 use iq_base::{Column, Listed, Name, NoMemory, Row, Value};
 use iq_cells::value_order;
 use iq_model::Out;

@@ -1,30 +1,23 @@
 //! The first refusal of a statement.
-ghost use Rattle.std.specs.Prelude.{◌≡◌, ◌≤◌, ◌<◌, ◌^◌, [], ◌∷◌, length, is_some, nat_le, not, IfOk};
+ghost use Rattle.std.specs.Prelude.{◌≡◌, ◌≤◌, [], ◌∷◌, length, IfOk};
 ghost use Rattle.std.specs.Option.{option_copied};
-ghost use Rattle.iq_base.specs.declared.limits.TheConstants.{MOST_TABLES};
 ghost use Rattle.iq_cells.specs.Fields.{first_bad_field};
-ghost use Rattle.iq_statements.specs.Tables.{Table, table_of, has_index};
-ghost use Rattle.iq_statements.specs.Checks.{found_if, first_refusal, first_found};
-ghost use Rattle.iq_statements.specs.Named.{named, fitting, on_table, bad_row, first_bad_row, create_checks, index_checks, delete_checks, update_checks, select_checks, tests_in, write_checks, most_indexes};
-ghost use Rattle.iq_statements.specs.Effects.{changed_rows};
-ghost use Rattle.iq_statements.specs.Room.{at_table, append_checks, new_index_checks, write_room};
-ghost use Rattle.iq_statements.specs.Statements.{statement_checks, room_checks};
+ghost use Rattle.iq_statements.specs.Tables.{Table};
+ghost use Rattle.iq_statements.specs.Checks.{first_refusal};
+ghost use Rattle.iq_statements.specs.Named.{fitting, on_table, bad_row, first_bad_row, delete_checks, update_checks, select_checks, tests_in, write_checks};
+ghost use Rattle.iq_statements.specs.Statements.{statement_checks};
 ghost use Rattle.iq_plain_tables.specs.Plain.{HasFewParts, HasFewWriteParts, select_found, select_unfit};
 
 use crate::carrying::tests_in;
+use crate::catalog::{create_refusal, new_index_named, no_table, old_index_named};
 use crate::databases::table_of;
-use crate::effects::changed_rows;
 use crate::fits::{first_change_refusal, first_item_mismatch, first_test_mismatch};
-use crate::naming::{first_of, no_change, no_indexed, no_selected, no_tested, not_grouped};
-use crate::room::{append_refusal, new_index_refusal};
+use crate::naming::{first_of, no_change, no_selected, no_tested, not_grouped};
 use crate::tables::PlainTable;
 use iq_ast::{Change, Cond, Select, Statement, Test, Write};
-use iq_base::{Column, IndexKind, MOST_TABLES, Name, NoMemory, Refusal, Row, Value};
+use iq_base::{Column, Name, NoMemory, Refusal, Row, Value};
 use iq_cells::first_bad_field;
 use std::alloc::Global;
-
-/// How many indexes a table can have.
-const MOST_INDEXES: usize = 32;
 
 /// The first refusal of what a statement names and of its values, which comes before its locks.
 pub fn statement_refusal(
@@ -47,104 +40,6 @@ pub fn statement_refusal(
         | Statement::BackTo(_)
         | Statement::Release(_)
         | Statement::Sync => Ok(None),
-    }
-}
-
-/// The first refusal that comes after a statement's locks, for want of room or by an index that doesn't fit.
-pub fn room_refusal(
-    alloc: Global,
-    statement: &Statement,
-    tables: &[PlainTable],
-) -> Result<Option<Refusal>, NoMemory>
-    ensures { IfOk result (λ found. found ≡ first_refusal (room_checks statement.now tables.now)) }
-{
-    match statement {
-        Statement::Write(write) => write_room_refusal(alloc, write, tables),
-        Statement::Select(_)
-        | Statement::Begin
-        | Statement::Commit
-        | Statement::Rollback
-        | Statement::Savepoint(_)
-        | Statement::BackTo(_)
-        | Statement::Release(_)
-        | Statement::Sync => Ok(None),
-    }
-}
-
-fn write_room_refusal(
-    alloc: Global,
-    write: &Write,
-    tables: &[PlainTable],
-) -> Result<Option<Refusal>, NoMemory>
-    ensures { IfOk result (λ found. found ≡ first_refusal (write_room write.now tables.now)) }
-{
-    match write {
-        Write::CreateTable { .. }
-        | Write::DropTable { .. }
-        | Write::DropIndex { .. }
-        | Write::Load { .. }
-        | Write::Delete { .. } => Ok(None),
-        Write::CreateIndex {
-            name,
-            kind,
-            table,
-            column,
-            second,
-        } => new_index_room(alloc, name, *kind, column, second, table_of(tables, table)),
-        Write::Insert { table, rows } => {
-            insert_room(alloc, rows.as_slice(), table_of(tables, table))
-        }
-        Write::Update {
-            table,
-            changes,
-            cond,
-        } => update_room(alloc, changes.as_slice(), cond, table_of(tables, table)),
-    }
-}
-
-fn new_index_room(
-    alloc: Global,
-    name: &Name,
-    kind: IndexKind,
-    column: &Name,
-    second: &Option<Name>,
-    table: Option<&PlainTable>,
-) -> Result<Option<Refusal>, NoMemory>
-    ensures { IfOk result (λ found. found ≡ first_refusal (at_table (option_copied table.entry) (new_index_checks name.now kind column.now second.now))) }
-{
-    match table {
-        None => Ok(None),
-        Some(table) => new_index_refusal(alloc, name, kind, column, second, table),
-    }
-}
-
-fn insert_room(
-    alloc: Global,
-    rows: &[Row],
-    table: Option<&PlainTable>,
-) -> Result<Option<Refusal>, NoMemory>
-    ensures { IfOk result (λ found. found ≡ first_refusal (at_table (option_copied table.entry) (append_checks rows.now))) }
-{
-    match table {
-        None => Ok(None),
-        Some(table) => append_refusal(alloc, rows, table),
-    }
-}
-
-fn update_room(
-    alloc: Global,
-    changes: &[Change],
-    cond: &Option<Cond>,
-    table: Option<&PlainTable>,
-) -> Result<Option<Refusal>, NoMemory>
-    ensures { IfOk result (λ found. found ≡ first_refusal (at_table (option_copied table.entry) (λ (t : Table). append_checks (changed_rows changes.now cond.now t) t))) }
-{
-    match table {
-        None => Ok(None),
-        Some(table) => {
-            let rows = changed_rows(alloc, changes, cond, table)?;
-            append_refusal(alloc, rows.as_slice(), table)
-        }
     }
 }
 
@@ -190,102 +85,6 @@ fn write_refusal(
             cond,
             table_of(tables, table),
         ),
-    }
-}
-
-/// The refusal of a new table: of its name, and of one table more.
-#[tactic(auto, using(crate::proofs::Firsts::or_none))]
-fn create_refusal(name: &Name, tables: &[PlainTable]) -> Option<Refusal>
-    ensures { result ≡ first_refusal (create_checks name.now tables.now) }
-{
-    first_of(exists_refusal(name, tables), catalog_refusal(tables))
-}
-
-fn exists_refusal(name: &Name, tables: &[PlainTable]) -> Option<Refusal>
-    ensures { result ≡ found_if (is_some (table_of name.now tables.now)) (Refusal.TableExists name.now) }
-{
-    match table_of(tables, name) {
-        None => None,
-        Some(_) => Some(Refusal::TableExists { name: name.again() }),
-    }
-}
-
-fn catalog_refusal(tables: &[PlainTable]) -> Option<Refusal>
-    ensures { result ≡ found_if (nat_le MOST_TABLES (length tables.now)) Refusal.CatalogFull }
-{
-    if MOST_TABLES <= tables.len() {
-        Some(Refusal::CatalogFull)
-    } else {
-        None
-    }
-}
-
-/// The refusal of a table that isn't there.
-fn no_table(name: &Name, table: Option<&PlainTable>) -> Option<Refusal>
-    ensures { result ≡ first_refusal (on_table name.now (option_copied table.entry) (λ (t : Table). [])) }
-{
-    match table {
-        None => Some(Refusal::NoTable { name: name.again() }),
-        Some(_) => None,
-    }
-}
-
-/// The refusal of a new index on a table: of its columns, of its name, and of one index more.
-#[tactic(auto, using(crate::proofs::Firsts::or_none))]
-fn new_index_named(
-    table_name: &Name,
-    name: &Name,
-    column: &Name,
-    second: &Option<Name>,
-    table: Option<&PlainTable>,
-) -> Option<Refusal>
-    ensures { result ≡ first_refusal (on_table table_name.now (option_copied table.entry) (index_checks name.now column.now second.now)) }
-{
-    match table {
-        None => Some(Refusal::NoTable {
-            name: table_name.again(),
-        }),
-        Some(table) => first_of(
-            no_indexed(table.columns(), column, second),
-            first_of(
-                index_exists(table.has_index(name), name),
-                indexes_full(table.indexes().len()),
-            ),
-        ),
-    }
-}
-
-fn index_exists(found: bool, name: &Name) -> Option<Refusal>
-    ensures { result ≡ found_if found (Refusal.IndexExists name.now) }
-{
-    found.then_some(Refusal::IndexExists { name: name.again() })
-}
-
-fn indexes_full(indexes: usize) -> Option<Refusal>
-    ensures { result ≡ found_if (nat_le most_indexes indexes) Refusal.CatalogFull }
-{
-    if MOST_INDEXES <= indexes {
-        Some(Refusal::CatalogFull)
-    } else {
-        None
-    }
-}
-
-/// The refusal of an index that is to be dropped, and isn't there.
-fn old_index_named(table_name: &Name, name: &Name, table: Option<&PlainTable>) -> Option<Refusal>
-    ensures { result ≡ first_refusal (on_table table_name.now (option_copied table.entry) (λ (t : Table). named (found_if (not (has_index name.now t)) (Refusal.NoIndex name.now)) ∷ [])) }
-{
-    match table {
-        None => Some(Refusal::NoTable {
-            name: table_name.again(),
-        }),
-        Some(table) => {
-            if table.has_index(name) {
-                None
-            } else {
-                Some(Refusal::NoIndex { name: name.again() })
-            }
-        }
     }
 }
 

@@ -6,6 +6,7 @@ ghost use Rattle.iq_conditions.specs.Servers.{same_name};
 ghost use Rattle.iq_statements.specs.Tables.{Table, table_of, with_rows, with_index, without_index, has_index, has_low_fast, is_low_fast, empty_table, live_slot};
 ghost use Rattle.iq_plain_tables.specs.Plain.{rows_in};
 
+use crate::copies::{copied_columns, copied_indexes, copied_row, copied_slots};
 use iq_base::{Column, IndexKind, IndexSpec, Listed, Name, NoMemory, Row, Value};
 use std::alloc::Global;
 use std::marker::Model;
@@ -300,48 +301,4 @@ fn push_rows(alloc: Global, slots: &mut Listed<PlainSlot>, rows: &[Row]) -> Resu
         slots.push(PlainSlot::live(copied_row(alloc, row.as_slice())?))?;
     }
     Ok(())
-}
-
-/// The same slots once more.
-fn copied_slots(alloc: Global, slots: &[PlainSlot]) -> Result<Listed<PlainSlot>, NoMemory>
-    ensures { IfOk result (λ copies. copies ≡ slots.now) }
-{
-    let mut copies = Listed::new(alloc);
-    for slot in slots {
-        copies.push(slot.copied(alloc)?)?;
-    }
-    Ok(copies)
-}
-
-/// The same columns once more.
-fn copied_columns(alloc: Global, columns: &[Column]) -> Result<Listed<Column>, NoMemory>
-    ensures { IfOk result (λ copies. copies ≡ columns.now) }
-{
-    let mut copies = Listed::new(alloc);
-    for column in columns {
-        copies.push(column.again())?;
-    }
-    Ok(copies)
-}
-
-/// The same indexes once more.
-fn copied_indexes(alloc: Global, indexes: &[IndexSpec]) -> Result<Listed<IndexSpec>, NoMemory>
-    ensures { IfOk result (λ copies. copies ≡ indexes.now) }
-{
-    let mut copies = Listed::new(alloc);
-    for index in indexes {
-        copies.push(index.again())?;
-    }
-    Ok(copies)
-}
-
-/// The same row once more.
-pub fn copied_row(alloc: Global, row: &[Value]) -> Result<Row, NoMemory>
-    ensures { IfOk result (λ copies. copies ≡ row.now) }
-{
-    let mut copies = Listed::new(alloc);
-    for value in row {
-        copies.push(value.again())?;
-    }
-    Ok(copies)
 }
