@@ -1,5 +1,7 @@
 //! A table, and statements on it, built by hand; answers as texts.
-ghost use Rattle.std.specs.Prelude.{◌<◌, length};
+ghost use Rattle.std.specs.Prelude.{◌<◌, length, IfOk};
+ghost use Rattle.iq_statements.specs.Statements.{HasWriteMeaning};
+ghost use Rattle.iq_plain_tables.specs.Plain.{HasFewWriteParts};
 
 use iq_ast::{Cond, Item, Op, Order, Select, Statement, Test, Write};
 use iq_base::{Column, IndexKind, Kind, Letters, Listed, Name, Schema, Text, Value};
@@ -69,7 +71,10 @@ pub fn four_rows(alloc: Global) -> Result<PlainTables, Fail> {
 }
 
 /// CREATE kind INDEX i ON t (column)
-pub fn new_index(kind: IndexKind, column: &str) -> Result<Write, Fail> {
+pub fn new_index(kind: IndexKind, column: &str) -> Result<Write, Fail>
+    ensures meaning { IfOk result HasWriteMeaning }
+    ensures few { IfOk result HasFewWriteParts }
+{
     Ok(Write::CreateIndex {
         name: name("i")?,
         kind,
