@@ -4,9 +4,9 @@ ghost use Rattle.iq_statements.specs.Statements.{HasWriteMeaning};
 ghost use Rattle.iq_plain_tables.specs.Plain.{HasFewWriteParts};
 
 use iq_ast::{Cond, Item, Op, Order, Select, Statement, Test, Write};
-use iq_base::{Column, IndexKind, Kind, Letters, Listed, Name, Schema, Text, Value};
+use iq_base::{Column, IndexKind, Kind, Letters, Listed, Name, Refusal, Schema, Text, Value};
 use iq_model::{Answer, AnswerRows, Out};
-use iq_plain_tables::{PlainTable, PlainTables, answer, tables_after};
+use iq_plain_tables::{PlainTable, PlainTables, answer, statement_refusal, tables_after};
 use sqlite_items::{Boxed, Items};
 use std::alloc::Global;
 use std::fmt::Debug;
@@ -191,6 +191,49 @@ pub fn tells<R: Abort + AllocGlobal>(
     let got = told(alloc, select, tables.as_slice())?;
     assert_eq!(rt; got.as_str(), want);
     Ok(())
+}
+
+/// Compares what SELECT * FROM t WHERE cond answers over the four rows with a text.
+pub fn keeps<R: Abort + AllocGlobal>(
+    rt: &R,
+    alloc: Global,
+    cond: Option<Cond>,
+    want: &str,
+) -> Result<(), Fail> {
+    let tables = four_rows(alloc)?;
+    tells(rt, alloc, &all_where(alloc, cond)?, &tables, want)
+}
+
+/// Compares the plan of SELECT * FROM t WHERE cond with a text.
+pub fn plans<R: Abort + AllocGlobal>(
+    rt: &R,
+    alloc: Global,
+    tables: &PlainTables,
+    cond: Option<Cond>,
+    want: &str,
+) -> Result<(), Fail> {
+    let mut query = all_where(alloc, cond)?;
+    query.explain = true;
+    tells(rt, alloc, &query, tables, want)
+}
+
+/// The table with the four rows and a Low Fast index i on a.
+pub fn with_low_fast(alloc: Global) -> Result<PlainTables, Fail> {
+    let tables = four_rows(alloc)?;
+    let index = Statement::Write(new_index(IndexKind::Lf, "a")?);
+    Ok(tables_after(alloc, &index, tables.as_slice())?)
+}
+
+/// The first refusal of a query over the four rows, as it shows.
+pub fn refuses<R: Abort + AllocGlobal>(
+    rt: &R,
+    alloc: Global,
+    query: Select,
+    want: Refusal,
+) -> Result<(), Fail> {
+    let tables = four_rows(alloc)?;
+    let found = statement_refusal(alloc, &Statement::Select(query), tables.as_slice())?;
+    same(rt, &found, &Some(want))
 }
 
 /// Compares two values by what they show.

@@ -1,157 +1,182 @@
 //! What queries answer.
 use crate::made::{
-    all_where, both, compare, either, four_rows, name, new_index, not_so, ordered, select, tells,
-    text,
+    all_where, both, compare, either, four_rows, keeps, name, not_so, ordered, plans, select,
+    tells, text, with_low_fast,
 };
-use iq_ast::{Cond, Item, Op, Statement, Test};
-use iq_base::{IndexKind, Listed, Value};
-use iq_plain_tables::tables_after;
+use iq_ast::{Cond, Item, Op, Test};
+use iq_base::{Listed, Value};
+use std::alloc::Global;
 use std::test::Fail;
 
 #[test]
-fn a_condition_keeps_the_rows_of_which_it_is_true(rt: HostRuntime) -> Result<(), Fail> {
-    let alloc = rt.alloc();
-    let tables = four_rows(alloc)?;
-    let all = all_where(alloc, None)?;
-    tells(&rt, alloc, &all, &tables, "1,x,;2,NULL,;NULL,y,;2,x,;")?;
-    let not_two = not_so(alloc, compare("a", Op::Eq, Value::Int(2))?)?;
-    tells(
-        &rt,
-        alloc,
-        &all_where(alloc, Some(not_two))?,
-        &tables,
-        "1,x,;",
-    )?;
-    let one_or_y = either(
-        alloc,
-        compare("a", Op::Eq, Value::Int(1))?,
-        compare("b", Op::Eq, text("y")?)?,
-    )?;
-    tells(
-        &rt,
-        alloc,
-        &all_where(alloc, Some(one_or_y))?,
-        &tables,
-        "1,x,;NULL,y,;",
-    )?;
-    let two_and_x = both(
-        alloc,
-        compare("a", Op::Eq, Value::Int(2))?,
-        compare("b", Op::Eq, text("x")?)?,
-    )?;
-    tells(
-        &rt,
-        alloc,
-        &all_where(alloc, Some(two_and_x))?,
-        &tables,
-        "2,x,;",
-    )
+fn without_a_condition_all_rows_are_kept(rt: HostRuntime) -> Result<(), Fail> {
+    keeps(&rt, rt.alloc(), None, "1,x,;2,NULL,;NULL,y,;2,x,;")
 }
 
 #[test]
-fn aggregates_leave_null_out(rt: HostRuntime) -> Result<(), Fail> {
-    let alloc = rt.alloc();
-    let tables = four_rows(alloc)?;
+fn not_leaves_unknown_out(rt: HostRuntime) -> Result<(), Fail> {
+    let cond = not_so(rt.alloc(), compare("a", Op::Eq, Value::Int(2))?)?;
+    keeps(&rt, rt.alloc(), Some(cond), "1,x,;")
+}
+
+#[test]
+fn or_keeps_what_one_of_its_members_keeps(rt: HostRuntime) -> Result<(), Fail> {
+    let one = compare("a", Op::Eq, Value::Int(1))?;
+    let cond = either(rt.alloc(), one, compare("b", Op::Eq, text("y")?)?)?;
+    keeps(&rt, rt.alloc(), Some(cond), "1,x,;NULL,y,;")
+}
+
+#[test]
+fn and_keeps_what_each_of_its_members_keeps(rt: HostRuntime) -> Result<(), Fail> {
+    let one = compare("a", Op::Eq, Value::Int(2))?;
+    let cond = both(rt.alloc(), one, compare("b", Op::Eq, text("x")?)?)?;
+    keeps(&rt, rt.alloc(), Some(cond), "2,x,;")
+}
+
+fn numbers_of_a(alloc: Global) -> Result<Listed<Item>, Fail> {
     let mut items = Listed::new(alloc);
     items.push(Item::CountAll)?;
     items.push(Item::Count(name("a")?))?;
     items.push(Item::Sum(name("a")?))?;
-    items.push(Item::Min(name("b")?))?;
     items.push(Item::Max(name("a")?))?;
+    Ok(items)
+}
+
+#[test]
+fn aggregates_leave_null_out(rt: HostRuntime) -> Result<(), Fail> {
+    let query = select(rt.alloc(), numbers_of_a(rt.alloc())?, None)?;
     tells(
         &rt,
-        alloc,
-        &select(alloc, items, None)?,
-        &tables,
-        "4,3,5,x,2,;",
-    )?;
-    let mut items = Listed::new(alloc);
-    items.push(Item::CountAll)?;
-    items.push(Item::Sum(name("a")?))?;
-    let never = compare("a", Op::Gt, Value::Int(9))?;
-    tells(
-        &rt,
-        alloc,
-        &select(alloc, items, Some(never))?,
-        &tables,
-        "0,NULL,;",
+        rt.alloc(),
+        &query,
+        &four_rows(rt.alloc())?,
+        "4,3,5,2,;",
     )
 }
 
 #[test]
-fn groups_come_in_the_order_of_their_keys(rt: HostRuntime) -> Result<(), Fail> {
-    let alloc = rt.alloc();
-    let tables = four_rows(alloc)?;
+fn aggregates_of_no_row_are_one_row(rt: HostRuntime) -> Result<(), Fail> {
+    let never = compare("a", Op::Gt, Value::Int(9))?;
+    let query = select(rt.alloc(), numbers_of_a(rt.alloc())?, Some(never))?;
+    tells(
+        &rt,
+        rt.alloc(),
+        &query,
+        &four_rows(rt.alloc())?,
+        "0,0,NULL,NULL,;",
+    )
+}
+
+fn a_and_least_b(alloc: Global) -> Result<Listed<Item>, Fail> {
     let mut items = Listed::new(alloc);
     items.push(Item::Plain(name("a")?))?;
     items.push(Item::CountAll)?;
-    let mut query = select(alloc, items, None)?;
+    items.push(Item::Min(name("b")?))?;
+    Ok(items)
+}
+
+#[test]
+fn groups_come_in_the_order_of_their_keys(rt: HostRuntime) -> Result<(), Fail> {
+    let mut query = select(rt.alloc(), a_and_least_b(rt.alloc())?, None)?;
     query.group.push(name("a")?)?;
-    tells(&rt, alloc, &query, &tables, "NULL,1,;1,1,;2,2,;")?;
-    query.order = ordered(alloc, "a", true)?;
-    tells(&rt, alloc, &query, &tables, "2,2,;1,1,;NULL,1,;")
+    let tables = four_rows(rt.alloc())?;
+    tells(&rt, rt.alloc(), &query, &tables, "NULL,1,y,;1,1,x,;2,2,x,;")
+}
+
+#[test]
+fn groups_are_ordered_as_asked(rt: HostRuntime) -> Result<(), Fail> {
+    let mut query = select(rt.alloc(), a_and_least_b(rt.alloc())?, None)?;
+    query.group.push(name("a")?)?;
+    query.order = ordered(rt.alloc(), "a", true)?;
+    let tables = four_rows(rt.alloc())?;
+    tells(&rt, rt.alloc(), &query, &tables, "2,2,x,;1,1,x,;NULL,1,y,;")
+}
+
+#[test]
+fn ascending_puts_null_first(rt: HostRuntime) -> Result<(), Fail> {
+    let mut query = all_where(rt.alloc(), None)?;
+    query.order = ordered(rt.alloc(), "a", false)?;
+    let tables = four_rows(rt.alloc())?;
+    tells(
+        &rt,
+        rt.alloc(),
+        &query,
+        &tables,
+        "NULL,y,;1,x,;2,NULL,;2,x,;",
+    )
 }
 
 #[test]
 fn descending_puts_null_last_and_keeps_ties(rt: HostRuntime) -> Result<(), Fail> {
-    let alloc = rt.alloc();
-    let tables = four_rows(alloc)?;
-    let mut query = all_where(alloc, None)?;
-    query.order = ordered(alloc, "a", false)?;
-    tells(&rt, alloc, &query, &tables, "NULL,y,;1,x,;2,NULL,;2,x,;")?;
-    query.order = ordered(alloc, "a", true)?;
-    tells(&rt, alloc, &query, &tables, "2,NULL,;2,x,;1,x,;NULL,y,;")
+    let mut query = all_where(rt.alloc(), None)?;
+    query.order = ordered(rt.alloc(), "a", true)?;
+    let tables = four_rows(rt.alloc())?;
+    tells(
+        &rt,
+        rt.alloc(),
+        &query,
+        &tables,
+        "2,NULL,;2,x,;1,x,;NULL,y,;",
+    )
+}
+
+#[test]
+fn a_plan_without_a_condition_reads_all(rt: HostRuntime) -> Result<(), Fail> {
+    plans(
+        &rt,
+        rt.alloc(),
+        &four_rows(rt.alloc())?,
+        None,
+        "all via existence;",
+    )
 }
 
 #[test]
 fn a_plan_carries_not_and_names_what_serves(rt: HostRuntime) -> Result<(), Fail> {
-    let alloc = rt.alloc();
-    let tables = four_rows(alloc)?;
-    let mut query = all_where(alloc, None)?;
-    query.explain = true;
-    tells(&rt, alloc, &query, &tables, "all via existence;")?;
     let null_b = Cond::Test(Test::Null {
         column: name("b")?,
         negated: false,
     });
-    let one = either(alloc, compare("a", Op::Eq, Value::Int(2))?, null_b)?;
-    query.cond = Some(not_so(alloc, one)?);
-    tells(
+    let one = either(rt.alloc(), compare("a", Op::Eq, Value::Int(2))?, null_b)?;
+    let cond = Some(not_so(rt.alloc(), one)?);
+    let tables = with_low_fast(rt.alloc())?;
+    plans(
         &rt,
-        alloc,
-        &query,
+        rt.alloc(),
         &tables,
-        "a <> 2 via FP;b IS NOT NULL via FP;",
-    )?;
-    let index = Statement::Write(new_index(IndexKind::Lf, "a")?);
-    let tables = tables_after(alloc, &index, tables.as_slice())?;
-    tells(
-        &rt,
-        alloc,
-        &query,
-        &tables,
+        cond,
         "a <> 2 via LF i;b IS NOT NULL via FP;",
-    )?;
-    query.cond = Some(Cond::Test(Test::Between {
+    )
+}
+
+#[test]
+fn a_plan_of_between_null_is_two_comparisons(rt: HostRuntime) -> Result<(), Fail> {
+    let cond = Some(Cond::Test(Test::Between {
         column: name("a")?,
         negated: false,
         low: Value::Null,
         high: Value::Int(5),
     }));
-    tells(
+    let tables = with_low_fast(rt.alloc())?;
+    plans(
         &rt,
-        alloc,
-        &query,
+        rt.alloc(),
         &tables,
+        cond,
         "a >= NULL via none;a <= 5 via LF i;",
-    )?;
-    let mut values = Listed::new(alloc);
+    )
+}
+
+#[test]
+fn a_plan_of_in_leaves_its_nulls_out(rt: HostRuntime) -> Result<(), Fail> {
+    let mut values = Listed::new(rt.alloc());
     values.push(text("it's")?)?;
     values.push(Value::Null)?;
-    query.cond = Some(Cond::Test(Test::OneOf {
+    let cond = Some(Cond::Test(Test::OneOf {
         column: name("b")?,
         negated: false,
         values,
     }));
-    tells(&rt, alloc, &query, &tables, "b IN ('it''s') via FP;")
+    let tables = with_low_fast(rt.alloc())?;
+    plans(&rt, rt.alloc(), &tables, cond, "b IN ('it''s') via FP;")
 }

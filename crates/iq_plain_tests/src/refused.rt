@@ -1,5 +1,5 @@
 //! The first refusals of statements.
-use crate::made::{all_where, compare, four_rows, name, new_index, same, select, text};
+use crate::made::{all_where, compare, four_rows, name, new_index, refuses, same, select, text};
 use iq_ast::{Change, Item, Op, Statement, Write};
 use iq_base::{FieldCause, IndexKind, Listed, Refusal, Value};
 use iq_plain_tables::{room_refusal, statement_refusal};
@@ -28,36 +28,59 @@ fn a_text_in_a_column_of_numbers_is_a_bad_row(rt: HostRuntime) -> Result<(), Fai
 }
 
 #[test]
-fn queries_are_refused_for_names_and_classes(rt: HostRuntime) -> Result<(), Fail> {
-    let alloc = rt.alloc();
-    let tables = four_rows(alloc)?;
-    let mut query = all_where(alloc, None)?;
+fn a_query_of_no_table_is_refused(rt: HostRuntime) -> Result<(), Fail> {
+    let mut query = all_where(rt.alloc(), None)?;
     query.table = name("u")?;
-    let found = statement_refusal(alloc, &Statement::Select(query), tables.as_slice())?;
-    same(&rt, &found, &Some(Refusal::NoTable { name: name("u")? }))?;
-    let query = all_where(alloc, Some(compare("c", Op::Eq, Value::Int(1))?))?;
-    let found = statement_refusal(alloc, &Statement::Select(query), tables.as_slice())?;
-    same(&rt, &found, &Some(Refusal::NoColumn { name: name("c")? }))?;
-    let query = all_where(alloc, Some(compare("a", Op::Eq, text("1")?)?))?;
-    let found = statement_refusal(alloc, &Statement::Select(query), tables.as_slice())?;
-    same(
+    refuses(
         &rt,
-        &found,
-        &Some(Refusal::TypeMismatch { column: name("a")? }),
-    )?;
-    let mut items = Listed::new(alloc);
+        rt.alloc(),
+        query,
+        Refusal::NoTable { name: name("u")? },
+    )
+}
+
+#[test]
+fn a_name_that_is_no_column_is_refused(rt: HostRuntime) -> Result<(), Fail> {
+    let query = all_where(rt.alloc(), Some(compare("c", Op::Eq, Value::Int(1))?))?;
+    refuses(
+        &rt,
+        rt.alloc(),
+        query,
+        Refusal::NoColumn { name: name("c")? },
+    )
+}
+
+#[test]
+fn a_text_beside_numbers_is_refused(rt: HostRuntime) -> Result<(), Fail> {
+    let query = all_where(rt.alloc(), Some(compare("a", Op::Eq, text("1")?)?))?;
+    refuses(
+        &rt,
+        rt.alloc(),
+        query,
+        Refusal::TypeMismatch { column: name("a")? },
+    )
+}
+
+#[test]
+fn a_column_beside_a_count_is_refused(rt: HostRuntime) -> Result<(), Fail> {
+    let mut items = Listed::new(rt.alloc());
     items.push(Item::CountAll)?;
     items.push(Item::Plain(name("b")?))?;
-    let query = select(alloc, items, None)?;
-    let found = statement_refusal(alloc, &Statement::Select(query), tables.as_slice())?;
-    same(
+    let query = select(rt.alloc(), items, None)?;
+    refuses(
         &rt,
-        &found,
-        &Some(Refusal::NotGrouped { column: name("b")? }),
-    )?;
-    let query = all_where(alloc, Some(compare("a", Op::Eq, Value::Int(1))?))?;
-    let fine = statement_refusal(alloc, &Statement::Select(query), tables.as_slice())?;
-    assert!(rt; fine.is_none());
+        rt.alloc(),
+        query,
+        Refusal::NotGrouped { column: name("b")? },
+    )
+}
+
+#[test]
+fn a_good_query_is_not_refused(rt: HostRuntime) -> Result<(), Fail> {
+    let query = all_where(rt.alloc(), Some(compare("a", Op::Eq, Value::Int(1))?))?;
+    let tables = four_rows(rt.alloc())?;
+    let found = statement_refusal(rt.alloc(), &Statement::Select(query), tables.as_slice())?;
+    assert!(rt; found.is_none());
     Ok(())
 }
 
@@ -86,23 +109,33 @@ fn a_long_text_of_set_is_refused(rt: HostRuntime) -> Result<(), Fail> {
 }
 
 #[test]
-fn indexes_are_refused_by_name_and_by_column(rt: HostRuntime) -> Result<(), Fail> {
-    let alloc = rt.alloc();
-    let tables = four_rows(alloc)?;
+fn an_index_that_does_not_fit_is_refused_for_its_column(rt: HostRuntime) -> Result<(), Fail> {
+    let tables = four_rows(rt.alloc())?;
     let unfit = Statement::Write(new_index(IndexKind::Hng, "b")?);
-    assert!(rt; statement_refusal(alloc, &unfit, tables.as_slice())?.is_none());
-    let found = room_refusal(alloc, &unfit, tables.as_slice())?;
+    assert!(rt; statement_refusal(rt.alloc(), &unfit, tables.as_slice())?.is_none());
+    let found = room_refusal(rt.alloc(), &unfit, tables.as_slice())?;
     same(
         &rt,
         &found,
         &Some(Refusal::IndexUnfit { column: name("b")? }),
-    )?;
+    )
+}
+
+#[test]
+fn an_index_that_fits_is_not_refused(rt: HostRuntime) -> Result<(), Fail> {
+    let tables = four_rows(rt.alloc())?;
     let low_fast = Statement::Write(new_index(IndexKind::Lf, "b")?);
-    assert!(rt; room_refusal(alloc, &low_fast, tables.as_slice())?.is_none());
+    assert!(rt; room_refusal(rt.alloc(), &low_fast, tables.as_slice())?.is_none());
+    Ok(())
+}
+
+#[test]
+fn an_index_that_is_not_there_is_not_dropped(rt: HostRuntime) -> Result<(), Fail> {
+    let tables = four_rows(rt.alloc())?;
     let drop = Statement::Write(Write::DropIndex {
         table: name("t")?,
         name: name("i")?,
     });
-    let found = statement_refusal(alloc, &drop, tables.as_slice())?;
+    let found = statement_refusal(rt.alloc(), &drop, tables.as_slice())?;
     same(&rt, &found, &Some(Refusal::NoIndex { name: name("i")? }))
 }
