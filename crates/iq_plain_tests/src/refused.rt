@@ -2,7 +2,7 @@
 use crate::made::{all_where, compare, four_rows, name, new_index, refuses, same, select, text};
 use iq_ast::{Change, Item, Op, Statement, Write};
 use iq_base::{FieldCause, IndexKind, Listed, Refusal, Value};
-use iq_plain_tables::{room_refusal, statement_refusal};
+use iq_plain_refusals::{room_refusal, statement_refusal};
 use std::test::Fail;
 
 #[test]
