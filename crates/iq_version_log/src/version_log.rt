@@ -121,7 +121,9 @@ impl VersionLog {
         ensures { IsTrue result → AreWithin count (drop 1 self.now.versions) }
     {
         let (_, behind) = self.versions.as_slice().split_at(1);
-        behind.iter().all(|version| are_below(version.dropped.as_slice(), count))
+        behind
+            .iter()
+            .all(|version| are_below(version.dropped.as_slice(), count))
     }
 
     /// Frees what the commits up to a horizon dropped, and keeps the versions from it on. It takes no memory.
