@@ -3,6 +3,7 @@ use crate::made::{all_where, compare, four_rows, name, new_index, refuses, same,
 use iq_ast::{Change, Item, Op, Statement, Write};
 use iq_base::{FieldCause, IndexKind, Listed, Refusal, Value};
 use iq_plain_refusals::{room_refusal, statement_refusal};
+use std::alloc::Global;
 use std::test::Fail;
 
 #[test]
@@ -84,27 +85,34 @@ fn a_good_query_is_not_refused(rt: HostRuntime) -> Result<(), Fail> {
     Ok(())
 }
 
-#[test]
-fn a_long_text_of_set_is_refused(rt: HostRuntime) -> Result<(), Fail> {
-    let alloc = rt.alloc();
-    let tables = four_rows(alloc)?;
+/// UPDATE t SET b = a text of six letters, where five find room
+fn long_update(alloc: Global) -> Result<Statement, Fail> {
     let mut changes = Listed::new(alloc);
     changes.push(Change {
         column: name("b")?,
         value: text("abcdef")?,
     })?;
-    let update = Statement::Write(Write::Update {
+    Ok(Statement::Write(Write::Update {
         table: name("t")?,
         changes,
         cond: None,
-    });
-    let found = statement_refusal(alloc, &update, tables.as_slice())?;
-    same(
-        &rt,
-        &found,
-        &Some(Refusal::TextTooLong { column: name("b")? }),
-    )?;
-    assert!(rt; room_refusal(alloc, &update, tables.as_slice())?.is_none());
+    }))
+}
+
+#[test]
+fn a_long_text_of_set_is_refused(rt: HostRuntime) -> Result<(), Fail> {
+    let tables = four_rows(rt.alloc())?;
+    let update = long_update(rt.alloc())?;
+    let found = statement_refusal(rt.alloc(), &update, tables.as_slice())?;
+    let column = name("b")?;
+    same(&rt, &found, &Some(Refusal::TextTooLong { column }))
+}
+
+#[test]
+fn a_long_text_of_set_is_no_want_of_room(rt: HostRuntime) -> Result<(), Fail> {
+    let tables = four_rows(rt.alloc())?;
+    let update = long_update(rt.alloc())?;
+    assert!(rt; room_refusal(rt.alloc(), &update, tables.as_slice())?.is_none());
     Ok(())
 }
 
