@@ -1,4 +1,7 @@
 //! The first refusals of statements.
+ghost use Rattle.std.specs.Prelude.{IfOk};
+ghost use Rattle.iq_plain_tables.specs.Plain.{HasFewParts};
+
 use crate::made::{all_where, compare, four_rows, name, new_index, refuses, same, select, text};
 use iq_ast::{Change, Item, Op, Statement, Write};
 use iq_base::{FieldCause, IndexKind, Listed, Refusal, Value};
@@ -86,7 +89,9 @@ fn a_good_query_is_not_refused(rt: HostRuntime) -> Result<(), Fail> {
 }
 
 /// UPDATE t SET b = a text of six letters, where five find room
-fn long_update(alloc: Global) -> Result<Statement, Fail> {
+fn long_update(alloc: Global) -> Result<Statement, Fail>
+    ensures { IfOk result HasFewParts }
+{
     let mut changes = Listed::new(alloc);
     changes.push(Change {
         column: name("b")?,
