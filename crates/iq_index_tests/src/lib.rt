@@ -1,6 +1,8 @@
-//! Tests of indexes over pages in memory, by the public calls of `iq_planes` and `iq_cmp`: rows that come in pieces beside plain
-//! lists, calls that fail, pages that lack.
+//! Tests of indexes over pages in memory, by the public calls of `iq_planes`, `iq_cmp` and `iq_hng`: rows that come in pieces beside
+//! plain lists, calls that fail, pages that lack.
 #![tactic(auto)]
 
 #[cfg(test)]
 mod compare;
+#[cfg(test)]
+mod slices;

@@ -1,0 +1,150 @@
+//! The High Non Group index beside plain lists of numbers.
+use iq_ast::Op;
+use iq_base::{Kind, Value};
+use iq_bitmap::Bitmap;
+use iq_cells::Cells;
+use iq_hng::{Compared, Hng, Width};
+use iq_pages::{MemoryPages, PageFault, PageSource};
+use iq_truth::{Side, comparison};
+use std::alloc::Global;
+use std::process::Abort;
+use std::test::Fail;
+
+const OBJECT: u32 = 67;
+
+/// Numbers of 32 bits, the ends too, and NULL; each row has the next one, and after the last the first again.
+const NUMBERS: [Option<i64>; 9] = [
+    Some(-2_147_483_648),
+    Some(-1),
+    None,
+    Some(0),
+    Some(1),
+    Some(2_147_483_647),
+    Some(5),
+    Some(-5),
+    Some(5),
+];
+
+/// What is compared with: each number, numbers beside these, and numbers beyond all.
+const OTHERS: [i64; 12] = [
+    -2_147_483_648,
+    -2_147_483_647,
+    -1,
+    0,
+    1,
+    2_147_483_647,
+    5,
+    -4,
+    2_147_483_648,
+    -2_147_483_649,
+    i64::MAX,
+    i64::MIN,
+];
+
+/// The value of row `i`.
+fn value(i: u32) -> Value {
+    match NUMBERS[(i % 9) as usize] {
+        None => Value::Null,
+        Some(number) => Value::Int(number),
+    }
+}
+
+/// The values of some rows.
+fn cells(alloc: Global, kind: Kind, from: u32, to: u32) -> Result<Cells, Fail> {
+    let mut cells = Cells::new(alloc, kind);
+    for i in from..to {
+        match value(i) {
+            Value::Int(number) => cells
+                .push_number(number)
+                .map_err(|_| "no number of the kind")?,
+            Value::Null | Value::Text(_) => cells.push_null()?,
+        }
+    }
+    Ok(cells)
+}
+
+/// Puts rows behind, where they are of the kind and find room.
+fn put(
+    rt: &impl Abort,
+    alloc: Global,
+    hng: &mut Hng,
+    store: &mut MemoryPages,
+    numbers: &Cells,
+) -> Result<(), PageFault> {
+    assert!(rt; numbers.kind() == hng.width.kind() && hng.has_room(numbers.len()));
+    hng.append(alloc, store, numbers)
+}
+
+fn compared(
+    rt: &impl Abort,
+    alloc: Global,
+    hng: &Hng,
+    store: &mut MemoryPages,
+    number: i64,
+) -> Result<Compared, PageFault> {
+    assert!(rt; hng.has_room(0));
+    hng.compare(alloc, store, number)
+}
+
+/// Whether a set of rows is that of an operator over the plain list.
+fn is_set_of(rows: &Bitmap, op: Op, number: i64) -> bool {
+    (0..rows.len()).all(|i| {
+        rows.get(i) == Side::True.has(comparison(op, &value(i), &Value::Int(number)))
+    })
+}
+
+/// Whether the rows stand to each of the other numbers as those of the plain list.
+fn agrees(
+    rt: &impl Abort,
+    alloc: Global,
+    hng: &Hng,
+    store: &mut MemoryPages,
+) -> Result<bool, PageFault> {
+    for number in OTHERS {
+        let rows = compared(rt, alloc, hng, store, number)?;
+        if !is_set_of(&rows.less, Op::Lt, number)
+            || !is_set_of(&rows.equal, Op::Eq, number)
+            || !is_set_of(&rows.greater, Op::Gt, number)
+        {
+            return Ok(false);
+        }
+    }
+    Ok(true)
+}
+
+#[test]
+fn numbers_in_pieces_are_compared_as_plain_lists(rt: HostRuntime) -> Result<(), Fail> {
+    let alloc = rt.alloc();
+    for (width, kind, planes) in [(Width::Int, Kind::Int, 33), (Width::Big, Kind::Big, 65)] {
+        let mut store = MemoryPages::new(alloc, Vec::new(alloc));
+        let mut hng = Hng {
+            object: OBJECT,
+            slots: 0,
+            width,
+        };
+        // Pieces without rows, and that begin and end within a page.
+        for (end, chunks) in [(0, 0), (5, 1), (20, 1), (8070, 2)] {
+            let numbers = cells(alloc, kind, hng.slots, end)?;
+            put(&rt, alloc, &mut hng, &mut store, &numbers)?;
+            assert_eq!(rt; (hng.slots, store.pages(OBJECT)), (end, planes * chunks));
+            assert!(rt; agrees(&rt, alloc, &hng, &mut store)?);
+        }
+    }
+    Ok(())
+}
+
+#[test]
+fn a_plane_that_lacks_is_named(rt: HostRuntime) -> Result<(), Fail> {
+    let alloc = rt.alloc();
+    let mut store = MemoryPages::new(alloc, Vec::new(alloc));
+    let long = Hng {
+        object: OBJECT,
+        slots: 9,
+        width: Width::Int,
+    };
+    match compared(&rt, alloc, &long, &mut store, 1) {
+        Err(PageFault::BadPage { object, page }) => assert_eq!(rt; (object, page), (OBJECT, 0)),
+        Ok(_) | Err(_) => panic!(rt; "no bad page"),
+    }
+    Ok(())
+}
