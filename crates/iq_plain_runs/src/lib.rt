@@ -1,0 +1,5 @@
+//! Whole runs of scripts over plain tables in memory: slow, short, and the meaning itself.
+#![tactic(auto)]
+
+mod transactions;
+mod sessions;

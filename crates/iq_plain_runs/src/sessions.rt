@@ -1,0 +1,371 @@
+//! Sessions: the line under way, the lines that are left, and the replies.
+ghost use Rattle.std.specs.Prelude.{◌≡◌, IfOk, OnOk, map, unwrap_or};
+ghost use Rattle.std.specs.Option.{option_copied};
+ghost use Rattle.iq_model.specs.declared.replies.Said.TheVariants as saids;
+ghost use Rattle.iq_replay.specs.Said.{write_said, statement_said, numbered};
+ghost use Rattle.iq_replay.specs.Changes.{statement_of, ends_line, ends_run, works, begins, locks_more, takes_effect, refused, commits, ends, rolls_back, saves_as, back_to, release_to, loses};
+ghost use Rattle.iq_plain_runs.specs.Plain.{fresh_session, run_of, was_lost};
+
+use crate::transactions::PlainTransaction;
+use iq_ast::{Statement, Write};
+use iq_base::{Listed, Locks, Name, NoMemory, Refusal};
+use iq_model::{Deed, Line, Reply, Said};
+use iq_plain_tables::{PlainTable, answer, count};
+use std::alloc::Global;
+use std::marker::Model;
+
+/// How far the line under way is.
+#[derive(Clone, Copy, Debug, PartialEq, Eq)]
+pub(crate) enum PlainStage {
+    Fresh,
+    Begun,
+    Locked,
+    Done,
+}
+
+/// A session.
+#[derive(Debug, Drop)]
+pub(crate) struct PlainSession<'a> {
+    node: u32,
+    lost: bool,
+    run: Option<PlainTransaction>,
+    stage: PlainStage,
+    said: Option<Said>,
+    left: Vec<&'a Line>,
+    replies: Listed<Reply>,
+}
+
+impl<'a> Model for PlainSession<'a> {
+    ghost use Rattle.std.specs.Prelude.{map};
+    ghost use Rattle.std.specs.Coded.{codes};
+    ghost use Rattle.iq_ast.specs.contracts.conditions.Cond as cond;
+    ghost use Rattle.iq_replay.specs.State.{Session};
+
+    ghost Value = { Session };
+
+    ghost coded = { Prim.hlevel (codes, cond.the_row.coded) };
+
+    ghost use Rattle.iq_plain_runs.specs.Plain.{standing_of};
+    ghost use Rattle.iq_plain_runs.specs.Stages.{stage_of};
+
+    ghost view = { λ it. record {
+      node = it.node;
+      standing = standing_of it.lost it.run;
+      stage = stage_of it.stage;
+      said = it.said;
+      left = map (λ line. line.now) it.left.items;
+      replies = it.replies;
+    } };
+}
+
+impl<'a> PlainSession<'a> {
+    /// A session before its first line.
+    pub(crate) fn fresh(alloc: Global, node: u32, left: Vec<&'a Line>) -> PlainSession<'a>
+        ensures { result ≡ fresh_session node (map (λ line. line.now) left.items) }
+    {
+        PlainSession {
+            node,
+            lost: false,
+            run: None,
+            stage: PlainStage::Fresh,
+            said: None,
+            left,
+            replies: Listed::new(alloc),
+        }
+    }
+
+    /// The place of its node.
+    pub(crate) fn node(&self) -> u32
+        ensures { result ≡ self.now.node }
+    {
+        self.node
+    }
+
+    /// Its running transaction, if it has one.
+    pub(crate) fn run(&self) -> Option<&PlainTransaction>
+        ensures { option_copied result ≡ run_of self.now.standing }
+    {
+        self.run.as_ref()
+    }
+
+    /// Whether its transaction was ended by a restart or an exclusion of its node.
+    pub(crate) fn is_lost(&self) -> bool
+        ensures { result ≡ was_lost self.now.standing }
+    {
+        self.lost && self.run.is_none()
+    }
+
+    /// The replies to its lines so far.
+    pub(crate) fn replies(&self) -> &[Reply]
+        ensures { result.now ≡ self.now.replies }
+    {
+        self.replies.as_slice()
+    }
+
+    /// The statement of the line under way.
+    fn statement(&self) -> Option<&'a Statement>
+        ensures { option_copied result ≡ statement_of self.now.left }
+    {
+        match self.left.first() {
+            None => None,
+            Some(line) => match &line.deed {
+                Deed::Statement(statement) => Some(statement),
+                Deed::Step(_) => None,
+            },
+        }
+    }
+
+    /// The line is answered, and the next is under way.
+    fn end_line(&mut self, l: u32, said: Said) -> Result<(), NoMemory>
+        ensures { OnOk result (self.new ≡ ends_line l said self.old) }
+    {
+        self.replies.push(Reply { line: l, said })?;
+        if !self.left.is_empty() {
+            self.left.remove(0);
+        }
+        self.said = None;
+        self.stage = PlainStage::Fresh;
+        Ok(())
+    }
+
+    /// A transaction begins.
+    pub(crate) fn begin(
+        &mut self,
+        alloc: Global,
+        l: u32,
+        c: u64,
+        tables: &[PlainTable],
+    ) -> Result<(), NoMemory>
+        ensures { OnOk result (self.new ≡ begins (statement_of self.old.left) l c tables.now self.old) }
+    {
+        match self.statement() {
+            Some(Statement::Begin) => {
+                self.run = Some(PlainTransaction::begun(alloc, false, c, tables)?);
+                self.end_line(l, Said::Begun { commit: c })
+            }
+            Some(Statement::Write(_)) | Some(Statement::Select(_)) => {
+                self.run = Some(PlainTransaction::begun(alloc, true, c, tables)?);
+                self.stage = PlainStage::Begun;
+                Ok(())
+            }
+            Some(Statement::Commit)
+            | Some(Statement::Rollback)
+            | Some(Statement::Savepoint(_))
+            | Some(Statement::BackTo(_))
+            | Some(Statement::Release(_))
+            | Some(Statement::Sync)
+            | None => Ok(()),
+        }
+    }
+
+    /// It holds names more.
+    pub(crate) fn lock(&mut self, names: &Locks) -> Result<(), NoMemory>
+        ensures { OnOk result (self.new ≡ locks_more names.now self.old) }
+    {
+        if let Some(run) = &mut self.run {
+            run.hold(names)?;
+        }
+        self.stage = PlainStage::Locked;
+        Ok(())
+    }
+
+    /// The statement of the line takes effect.
+    pub(crate) fn take(&mut self, alloc: Global, l: u32) -> Result<(), NoMemory>
+        ensures { OnOk result (self.new ≡ takes_effect (statement_of self.old.left) l self.old) }
+    {
+        let Some(statement) = self.statement() else {
+            return Ok(());
+        };
+        let Some(run) = &mut self.run else {
+            return Ok(());
+        };
+        let said = said_of(alloc, statement, run.work().seen())?;
+        run.take(alloc, statement)?;
+        if run.is_own() {
+            self.stage = PlainStage::Done;
+            self.said = said;
+            return Ok(());
+        }
+        run.keep(alloc)?;
+        self.end_line(l, said_or_ended(said))
+    }
+
+    /// The line is refused.
+    pub(crate) fn refuse(
+        &mut self,
+        alloc: Global,
+        l: u32,
+        cause: Refusal,
+    ) -> Result<(), NoMemory>
+        ensures { OnOk result (self.new ≡ refused l cause self.old) }
+    {
+        if let Refusal::Lost { .. } = &cause {
+            self.lost = false;
+        }
+        if let Some(run) = &mut self.run {
+            if run.is_own() {
+                self.run = None;
+                self.lost = false;
+            } else {
+                run.undo(alloc)?;
+            }
+        }
+        self.end_line(l, Said::Refused(cause))
+    }
+
+    /// The transaction ends under a number.
+    pub(crate) fn commit(&mut self, l: u32, c: u64) -> Result<(), NoMemory>
+        ensures { OnOk result (self.new ≡ commits l c self.old) }
+    {
+        let said = match self.said.take() {
+            None => Said::Committed { commit: c },
+            Some(said) => numbered(c, said),
+        };
+        self.end_run();
+        self.end_line(l, said)
+    }
+
+    /// The transaction ends without a number.
+    pub(crate) fn end(&mut self, l: u32) -> Result<(), NoMemory>
+        ensures { OnOk result (self.new ≡ ends l self.old) }
+    {
+        let said = said_or_ended(self.said.take());
+        self.end_run();
+        self.end_line(l, said)
+    }
+
+    /// The transaction is rolled back, at the script's end without an answer.
+    pub(crate) fn roll_back(&mut self, l: u32) -> Result<(), NoMemory>
+        ensures { OnOk result (self.new ≡ rolls_back l self.old) }
+    {
+        self.end_run();
+        if l == 0 {
+            return Ok(());
+        }
+        self.end_line(l, Said::RolledBack)
+    }
+
+    /// No transaction runs, and none was lost.
+    fn end_run(&mut self)
+        ensures { self.new ≡ ends_run self.old }
+    {
+        self.run = None;
+        self.lost = false;
+    }
+
+    /// A savepoint is kept.
+    pub(crate) fn save(&mut self, alloc: Global, l: u32, name: &Name) -> Result<(), NoMemory>
+        ensures { OnOk result (self.new ≡ ends_line l (saids.Saved name.now) (works (saves_as name.now) self.old)) }
+    {
+        if let Some(run) = &mut self.run {
+            run.save(alloc, name)?;
+        }
+        self.end_line(l, Said::Saved { name: name.again() })
+    }
+
+    /// The tables are as at a savepoint.
+    pub(crate) fn go_back(&mut self, alloc: Global, l: u32, name: &Name) -> Result<(), NoMemory>
+        ensures { OnOk result (self.new ≡ ends_line l (saids.BackTo name.now) (works (back_to name.now) self.old)) }
+    {
+        if let Some(run) = &mut self.run {
+            run.go_back(alloc, name)?;
+        }
+        self.end_line(l, Said::BackTo { name: name.again() })
+    }
+
+    /// A savepoint goes.
+    pub(crate) fn release(&mut self, l: u32, name: &Name) -> Result<(), NoMemory>
+        ensures { OnOk result (self.new ≡ ends_line l (saids.Released name.now) (works (release_to name.now) self.old)) }
+    {
+        if let Some(run) = &mut self.run {
+            run.release(name)?;
+        }
+        self.end_line(l, Said::Released { name: name.again() })
+    }
+
+    /// The session's node is at a commit.
+    pub(crate) fn sync(&mut self, l: u32, c: u64) -> Result<(), NoMemory>
+        ensures { OnOk result (self.new ≡ ends_line l (saids.Synced c) self.old) }
+    {
+        self.end_line(l, Said::Synced { commit: c })
+    }
+
+    /// A running transaction is lost, where it is on this node.
+    pub(crate) fn lose(&mut self, node: u32)
+        ensures { self.new ≡ loses node self.old }
+    {
+        if self.node == node && self.run.is_some() {
+            self.run = None;
+            self.lost = true;
+        }
+    }
+}
+
+/// What a statement on tables is answered.
+fn said_of(
+    alloc: Global,
+    statement: &Statement,
+    tables: &[PlainTable],
+) -> Result<Option<Said>, NoMemory>
+    ensures { IfOk result (λ said. said ≡ statement_said statement.now tables.now) }
+{
+    match statement {
+        Statement::Write(write) => Ok(Some(write_said(alloc, write, tables)?)),
+        Statement::Select(select) => Ok(Some(Said::Answer(answer(alloc, select, tables)?))),
+        Statement::Begin
+        | Statement::Commit
+        | Statement::Rollback
+        | Statement::Savepoint(_)
+        | Statement::BackTo(_)
+        | Statement::Release(_)
+        | Statement::Sync => Ok(None),
+    }
+}
+
+/// What a write is answered, before it has a number.
+fn write_said(alloc: Global, write: &Write, tables: &[PlainTable]) -> Result<Said, NoMemory>
+    ensures { IfOk result (λ said. said ≡ write_said write.now tables.now) }
+{
+    let commit = None;
+    match write {
+        Write::CreateTable { .. } | Write::CreateIndex { .. } => Ok(Said::Created { commit }),
+        Write::DropTable { .. } | Write::DropIndex { .. } => Ok(Said::Dropped { commit }),
+        Write::Insert { .. } | Write::Load { .. } => {
+            let rows = count(alloc, write, tables)?;
+            Ok(Said::Inserted { rows, commit })
+        }
+        Write::Delete { .. } => {
+            let rows = count(alloc, write, tables)?;
+            Ok(Said::Deleted { rows, commit })
+        }
+        Write::Update { .. } => {
+            let rows = count(alloc, write, tables)?;
+            Ok(Said::Updated { rows, commit })
+        }
+    }
+}
+
+/// What a line said, or that its transaction ended.
+fn said_or_ended(said: Option<Said>) -> Said
+    ensures { result ≡ unwrap_or said saids.Ended }
+{
+    match said {
+        None => Said::Ended,
+        Some(said) => said,
+    }
+}
+
+/// What a line said, with the number of its commit.
+fn numbered(c: u64, said: Said) -> Said
+    ensures { result ≡ numbered c said }
+{
+    let commit = Some(c);
+    match said {
+        Said::Created { .. } => Said::Created { commit },
+        Said::Dropped { .. } => Said::Dropped { commit },
+        Said::Inserted { rows, .. } => Said::Inserted { rows, commit },
+        Said::Deleted { rows, .. } => Said::Deleted { rows, commit },
+        Said::Updated { rows, .. } => Said::Updated { rows, commit },
+        other => other,
+    }
+}
