@@ -1,5 +1,7 @@
 //! Whole runs of scripts over plain tables in memory: slow, short, and the meaning itself.
 #![tactic(auto)]
 
+mod nodes;
+mod state;
 mod transactions;
 mod sessions;

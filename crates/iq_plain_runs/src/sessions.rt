@@ -61,7 +61,7 @@ impl<'a> Model for PlainSession<'a> {
 impl<'a> PlainSession<'a> {
     /// A session before its first line.
     pub(crate) fn fresh(alloc: Global, node: u32, left: Vec<&'a Line>) -> PlainSession<'a>
-        ensures { result ≡ fresh_session node (map (λ line. line.now) left.items) }
+        ensures { result ≡ fresh_session node (map (λ line. line.now) left.entry.items) }
     {
         PlainSession {
             node,
