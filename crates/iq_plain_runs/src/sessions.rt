@@ -4,8 +4,11 @@ ghost use Rattle.std.specs.Option.{option_copied};
 ghost use Rattle.iq_model.specs.declared.replies.Said.TheVariants as saids;
 ghost use Rattle.iq_replay.specs.Said.{write_said, statement_said, numbered};
 ghost use Rattle.iq_replay.specs.Changes.{statement_of, ends_line, ends_run, works, begins, locks_more, takes_effect, refused, commits, ends, rolls_back, saves_as, back_to, release_to, loses};
+ghost use Rattle.iq_replay.specs.State.{has_name, held_by};
+ghost use Rattle.iq_replay.specs.Refusals.{before_line};
 ghost use Rattle.iq_plain_runs.specs.Plain.{fresh_session, run_of, was_lost};
 
+use crate::names::has_name;
 use crate::transactions::PlainTransaction;
 use iq_ast::{Statement, Write};
 use iq_base::{Listed, Locks, Name, NoMemory, Refusal};
@@ -93,6 +96,32 @@ impl<'a> PlainSession<'a> {
         ensures { result ≡ was_lost self.now.standing }
     {
         self.lost && self.run.is_none()
+    }
+
+    /// The transaction that it had before its line.
+    pub(crate) fn before_line(&self) -> Option<&PlainTransaction>
+        ensures { option_copied result ≡ before_line self.now.standing }
+    {
+        match &self.run {
+            None => None,
+            Some(run) => {
+                if run.is_own() {
+                    None
+                } else {
+                    Some(run)
+                }
+            }
+        }
+    }
+
+    /// Whether its transaction holds a name.
+    pub(crate) fn holds(&self, name: &Name) -> bool
+        ensures { result ≡ has_name (held_by self.now.standing) name.now }
+    {
+        match &self.run {
+            None => false,
+            Some(run) => has_name(run.work().held(), name),
+        }
     }
 
     /// The replies to its lines so far.

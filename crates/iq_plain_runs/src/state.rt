@@ -1,19 +1,13 @@
 //! The state of a run: what the entries of its history leave.
-ghost use Rattle.std.specs.Prelude.{◌≡◌, ◌≤◌, ◌<◌, ◌+◌, ◌^◌, ◌||◌, IfOk, OnOk, map, fold, filter, nat_eq, max, slice_get, length};
-ghost use Rattle.std.specs.Option.{option_copied};
-ghost use Rattle.iq_base.specs.declared.refusals.Refusal.{Refusal};
-ghost use Rattle.iq_history.specs.declared.entries.Entry.TheVariants as entries;
-ghost use Rattle.iq_replay.specs.State.{with_session};
-ghost use Rattle.iq_replay.specs.Commits.{database_of, committed, written_names, with_seen, table_names, written_at};
-ghost use Rattle.iq_replay.specs.Changes.{statement_of, locks_more, takes_effect};
-ghost use Rattle.iq_replay.specs.Entries.{change};
+ghost use Rattle.std.specs.Prelude.{◌≡◌};
+ghost use Rattle.iq_replay.specs.State.{with_node, moved_to};
+ghost use Rattle.iq_replay.specs.Commits.{database_of};
 
 use crate::nodes::{PlainNode, PlainReport, PlainWritten};
 use crate::sessions::PlainSession;
-use iq_base::{Listed, Locks, Name, NoMemory};
+use iq_base::Listed;
 use iq_model::{Line, Reply};
 use iq_plain_tables::{PlainTable, PlainTables};
-use std::alloc::Global;
 use std::marker::Model;
 
 /// The commits, the nodes, the reports, the sessions, the steps that are left and the replies of steps. Nothing has halted, and no
@@ -80,27 +74,14 @@ impl<'a> PlainState<'a> {
         }
     }
 
-    /// Names are locked.
-    #[tactic(auto, using(crate::proofs::Places::changed_at_set, crate::proofs::Places::changed_at_past))]
-    pub(crate) fn lock(&mut self, s: u32, l: u32, names: &Locks) -> Result<(), NoMemory>
-        ensures { OnOk result (self.new ≡ with_session s (locks_more names.now) self.old) }
+    /// A node moves to a commit.
+    #[tactic(auto, using(crate::proofs::Places::changed_at_past))]
+    pub(crate) fn move_node(&mut self, n: u32, c: u64)
+        ensures { self.new ≡ with_node n (moved_to c) self.old }
     {
-        let place = s as usize;
-        if place < self.sessions.len() {
-            self.sessions[place].lock(names)?;
+        let place = n as usize;
+        if place < self.nodes.len() {
+            self.nodes[place].move_to(c);
         }
-        Ok(())
-    }
-
-    /// The statement of a line took effect.
-    #[tactic(auto, using(crate::proofs::Places::changed_at_set, crate::proofs::Places::changed_at_past))]
-    pub(crate) fn done(&mut self, alloc: Global, s: u32, l: u32) -> Result<(), NoMemory>
-        ensures { OnOk result (self.new ≡ with_session s (λ session. takes_effect (statement_of session.left) l session) self.old) }
-    {
-        let place = s as usize;
-        if place < self.sessions.len() {
-            self.sessions[place].take(alloc, l)?;
-        }
-        Ok(())
     }
 }

@@ -1,8 +1,9 @@
 //! Transactions: what they see, what they hold, and their savepoints.
-ghost use Rattle.std.specs.Prelude.{◌≡◌, ◌∷◌, ◌++◌, ◌≤◌, [], IfOk, OnOk, length, drop};
+ghost use Rattle.std.specs.Prelude.{◌≡◌, ◌∷◌, ◌++◌, ◌≤◌, [], IfOk, OnOk, is_some, length, drop};
 ghost use Rattle.iq_base.specs.Locks.{catalog_name};
 ghost use Rattle.iq_conditions.specs.Servers.{same_name};
 ghost use Rattle.iq_replay.specs.State.{Work, Run, Save};
+ghost use Rattle.iq_replay.specs.Refusals.{save_named};
 ghost use Rattle.iq_replay.specs.Changes.{begin_work, begin_run, holds_more, work_after, saves_as, saves_from, back_to, release_to, sees, seen_at};
 
 use iq_ast::{Statement, Write};
@@ -200,6 +201,13 @@ impl PlainTransaction {
         self.saves.as_slice()
     }
 
+    /// Whether a savepoint of this name stands.
+    pub(crate) fn has_save(&self, name: &Name) -> bool
+        ensures { result ≡ is_some (save_named self.entry.now.saves name.now) }
+    {
+        self.saves.iter().any(|save| save.is_named(name))
+    }
+
     /// Holds names more.
     pub(crate) fn hold(&mut self, names: &Locks) -> Result<(), NoMemory>
         ensures { OnOk result (self.new ≡ holds_more names.now self.old) }
@@ -308,7 +316,7 @@ pub(crate) fn catalog() -> Name
 }
 
 /// The same names once more.
-fn copied_names(alloc: Global, names: &[Name]) -> Result<Listed<Name>, NoMemory>
+pub(crate) fn copied_names(alloc: Global, names: &[Name]) -> Result<Listed<Name>, NoMemory>
     ensures { IfOk result (λ copies. copies ≡ names.now) }
 {
     let mut copies = Listed::new(alloc);

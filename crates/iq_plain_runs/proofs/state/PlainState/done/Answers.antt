@@ -1,0 +1,13 @@
+use Rattle.std.proofs.Common.{rules, arith, ◌≡◌, ◌<◌, length, refl, vec_len}
+use Rattle.iq_model.specs.declared.replies.Said.TheVariants as saids
+use Rattle.iq_replay.specs.State.{Session}
+use Rattle.iq_replay.specs.Commits.{database_of}
+use Rattle.iq_replay.specs.Changes.{statement_of, begins, locks_more, takes_effect, refused, commits, ends, rolls_back, ends_line, works, saves_as, back_to, release_to}
+use Rattle.iq_plain_runs.proofs.Places.{set_is_changed}
+use Rattle.iq_plain_runs.proofs.state.PlainState.done.Goals as goal
+
+pub returns-in_ok-take : goal.returns-in_ok-take
+returns-in_ok-take c =
+    let within : c.args.s < length c.self.inside.sessions.items = search rules in
+    let changed = set_is_changed c.args.s (λ (session : Session). takes_effect (statement_of session.left) c.args.l session) c.self.inside.sessions.items _ _ within c.index_mut.ensures.value c.in_ok-take.ensures in
+    rw (← c.self.view_is, changed) refl

@@ -1,0 +1,13 @@
+use Rattle.std.proofs.Common.{rules, arith, ◌≡◌, ◌<◌, length, refl, vec_len}
+use Rattle.iq_model.specs.declared.replies.Said.TheVariants as saids
+use Rattle.iq_replay.specs.State.{Session}
+use Rattle.iq_replay.specs.Commits.{database_of}
+use Rattle.iq_replay.specs.Changes.{statement_of, begins, locks_more, takes_effect, refused, commits, ends, rolls_back, ends_line, works, saves_as, back_to, release_to}
+use Rattle.iq_plain_runs.proofs.Places.{set_is_changed}
+use Rattle.iq_plain_runs.proofs.state.PlainState.end.Goals as goal
+
+pub returns-in_ok-end : goal.returns-in_ok-end
+returns-in_ok-end c =
+    let within : c.args.s < length c.self.inside.sessions.items = search rules in
+    let changed = set_is_changed c.args.s (ends c.args.l) c.self.inside.sessions.items _ _ within c.index_mut.ensures.value c.in_ok-end.ensures in
+    rw (← c.self.view_is, changed) refl

@@ -1,0 +1,319 @@
+//! The first refusal of a line.
+ghost use Rattle.std.specs.Prelude.{◌≡◌, IfOk};
+ghost use Rattle.std.specs.List.{slice_get};
+ghost use Rattle.std.specs.Option.{option_copied, option_or};
+ghost use Rattle.iq_model.specs.Scripts.{HasFewTuples};
+ghost use Rattle.iq_statements.specs.Checks.{first_refusal, first_found};
+ghost use Rattle.iq_statements.specs.Statements.{HasMeaning, is_ddl};
+ghost use Rattle.iq_replay.specs.State.{running};
+ghost use Rattle.iq_replay.specs.Commits.{latest_of};
+ghost use Rattle.iq_replay.specs.Refusals.{lost_refusal, at_node, excluded_refusal, reader_refusal, before_line, no_save, full_saves, transaction_refusal, locked_refusal, later_refusal, holder_from, run_checks, line_checks};
+ghost use Rattle.iq_plain_runs.specs.Plain.{refusal_at};
+
+use crate::names::wanted;
+use crate::nodes::PlainNode;
+use crate::sessions::PlainSession;
+use crate::state::PlainState;
+use crate::transactions::{PlainTransaction, catalog};
+use iq_ast::{Statement, Write};
+use iq_base::{Locks, Name, NoMemory, Refusal};
+use iq_plain_tables::{room_refusal, statement_refusal};
+use std::alloc::Global;
+
+impl<'a> PlainState<'a> {
+    /// The first refusal of a statement in a session.
+    pub(crate) fn refusal(
+        &self,
+        alloc: Global,
+        s: u32,
+        statement: &Statement,
+    ) -> Result<Option<Refusal>, NoMemory>
+        requires meaning { HasMeaning statement.now }
+        requires few { HasFewTuples statement.now }
+        ensures { IfOk result (λ found. found ≡ refusal_at self.now s statement.now) }
+    {
+        match self.sessions.get(s as usize) {
+            None => Ok(None),
+            Some(session) => self.session_refusal(alloc, s, session, statement),
+        }
+    }
+
+    /// The first refusal of a session's statement.
+    fn session_refusal(
+        &self,
+        alloc: Global,
+        s: u32,
+        session: &PlainSession<'a>,
+        statement: &Statement,
+    ) -> Result<Option<Refusal>, NoMemory>
+        requires meaning { HasMeaning statement.now }
+        requires few { HasFewTuples statement.now }
+        ensures { IfOk result (λ found. found ≡ first_refusal (line_checks self.now s session.now statement.now)) }
+    {
+        let node = self.node_at(session.node());
+        if let Some(cause) = lost_refusal(node, session) {
+            return Ok(Some(cause));
+        }
+        if let Some(cause) = excluded_refusal(node) {
+            return Ok(Some(cause));
+        }
+        if let Some(cause) = transaction_refusal(session.before_line(), statement) {
+            return Ok(Some(cause));
+        }
+        if let Some(cause) = reader_refusal(node, statement) {
+            return Ok(Some(cause));
+        }
+        match session.run() {
+            None => Ok(None),
+            Some(run) => self.run_refusal(alloc, s, run, statement),
+        }
+    }
+
+    /// The node at a place.
+    pub(crate) fn node_at(&self, n: u32) -> Option<&PlainNode>
+        ensures { option_copied result ≡ slice_get self.now.nodes n }
+    {
+        self.nodes.get(n as usize)
+    }
+
+    /// The first refusal that only a running transaction can meet.
+    #[tactic(auto, using(crate::proofs::Found::first_refusal_append))]
+    fn run_refusal(
+        &self,
+        alloc: Global,
+        s: u32,
+        run: &PlainTransaction,
+        statement: &Statement,
+    ) -> Result<Option<Refusal>, NoMemory>
+        requires meaning { HasMeaning statement.now }
+        requires few { HasFewTuples statement.now }
+        ensures { IfOk result (λ found. found ≡ first_refusal (run_checks self.now s (running run.entry.now) statement.now)) }
+    {
+        if let Some(cause) = statement_refusal(alloc, statement, run.start().seen())? {
+            return Ok(Some(cause));
+        }
+        let names = wanted(statement, run);
+        if let Some(cause) = self.locked_refusal(s, &names)? {
+            return Ok(Some(cause));
+        }
+        if let Some(cause) = self.later_refusal(run.snapshot(), &names) {
+            return Ok(Some(cause));
+        }
+        room_refusal(alloc, statement, run.start().seen())
+    }
+
+    /// The refusal of the first of these names that another transaction holds.
+    fn locked_refusal(&self, s: u32, names: &Locks) -> Result<Option<Refusal>, NoMemory>
+        ensures { IfOk result (λ found. found ≡ first_found (locked_refusal self.now.sessions s) names.now) }
+    {
+        let (of_all, table) = names.parts();
+        if of_all {
+            if let Some(cause) = self.locked_name(s, &catalog())? {
+                return Ok(Some(cause));
+            }
+        }
+        match table {
+            None => Ok(None),
+            Some(name) => self.locked_name(s, name),
+        }
+    }
+
+    /// The refusal of a name that another transaction holds.
+    fn locked_name(&self, s: u32, name: &Name) -> Result<Option<Refusal>, NoMemory>
+        ensures { IfOk result (λ found. found ≡ locked_refusal self.now.sessions s name.now) }
+    {
+        let Some(place) = self.holder(s, name) else {
+            return Ok(None);
+        };
+        let Ok(session) = u32::try_from(place) else {
+            return Err(NoMemory);
+        };
+        Ok(Some(Refusal::Locked {
+            table: name.again(),
+            session,
+        }))
+    }
+
+    /// The first other session whose transaction holds a name.
+    fn holder(&self, asks: u32, name: &Name) -> Option<usize>
+        ensures { result ≡ holder_from 0 self.now.sessions asks name.now }
+    {
+        for (place, session) in self.sessions.iter().enumerate() {
+            if place == asks as usize {
+                continue;
+            }
+            if session.holds(name) {
+                return Some(place);
+            }
+        }
+        None
+    }
+
+    /// The refusal of the first of these names whose latest commit is past the snapshot.
+    fn later_refusal(&self, snapshot: u64, names: &Locks) -> Option<Refusal>
+        ensures { result ≡ first_found (later_refusal self.now.wrote snapshot) names.now }
+    {
+        let (of_all, table) = names.parts();
+        if of_all {
+            if let Some(cause) = self.later_name(snapshot, &catalog()) {
+                return Some(cause);
+            }
+        }
+        match table {
+            None => None,
+            Some(name) => self.later_name(snapshot, name),
+        }
+    }
+
+    /// The refusal of a name whose latest commit is past the snapshot.
+    fn later_name(&self, snapshot: u64, name: &Name) -> Option<Refusal>
+        ensures { result ≡ later_refusal self.now.wrote snapshot name.now }
+    {
+        let commit = self.latest_of(name);
+        if snapshot < commit {
+            return Some(Refusal::Later {
+                table: name.again(),
+                commit,
+            });
+        }
+        None
+    }
+
+    /// The commit that last wrote a name, 0 where none did.
+    fn latest_of(&self, name: &Name) -> u64
+        ensures { result ≡ latest_of name.now self.now.wrote }
+    {
+        for written in &self.wrote {
+            if written.is_named(name) {
+                return written.commit();
+            }
+        }
+        0
+    }
+}
+
+/// A session whose transaction was ended by a restart or an exclusion of its node.
+fn lost_refusal(node: Option<&PlainNode>, session: &PlainSession) -> Option<Refusal>
+    ensures { result ≡ lost_refusal (option_copied node.entry) session.now.standing }
+{
+    let node = node?;
+    if session.is_lost() {
+        return Some(Refusal::Lost {
+            incarnation: node.incarnation(),
+        });
+    }
+    None
+}
+
+/// A node that is excluded.
+fn excluded_refusal(node: Option<&PlainNode>) -> Option<Refusal>
+    ensures { result ≡ at_node excluded_refusal (option_copied node.entry) }
+{
+    let node = node?;
+    if node.is_excluded() {
+        return Some(Refusal::Excluded {
+            node: node.name().again(),
+        });
+    }
+    None
+}
+
+/// A write on a reader.
+fn reader_refusal(node: Option<&PlainNode>, statement: &Statement) -> Option<Refusal>
+    ensures { result ≡ reader_refusal (option_copied node.entry) statement.now }
+{
+    let node = node?;
+    match statement {
+        Statement::Write(_) => {
+            if node.is_reader() {
+                return Some(Refusal::ReadOnly {
+                    node: node.name().again(),
+                });
+            }
+            None
+        }
+        Statement::Select(_)
+        | Statement::Begin
+        | Statement::Commit
+        | Statement::Rollback
+        | Statement::Savepoint(_)
+        | Statement::BackTo(_)
+        | Statement::Release(_)
+        | Statement::Sync => None,
+    }
+}
+
+/// What a statement asks of the transaction that the session had.
+fn transaction_refusal(run: Option<&PlainTransaction>, statement: &Statement) -> Option<Refusal>
+    ensures { result ≡ transaction_refusal (option_copied run.entry) statement.now }
+{
+    match statement {
+        Statement::Write(write) => {
+            if run.is_some() && is_ddl(write) {
+                return Some(Refusal::DdlInTransaction);
+            }
+            None
+        }
+        Statement::Select(_) => None,
+        Statement::Begin | Statement::Sync => {
+            if run.is_some() {
+                return Some(Refusal::InTransaction);
+            }
+            None
+        }
+        Statement::Commit | Statement::Rollback => {
+            if run.is_none() {
+                return Some(Refusal::NoTransaction);
+            }
+            None
+        }
+        Statement::Savepoint(_) => full_saves(run),
+        Statement::BackTo(name) | Statement::Release(name) => no_save(run, name),
+    }
+}
+
+/// A transaction whose savepoints are as many as they can be, or none.
+fn full_saves(run: Option<&PlainTransaction>) -> Option<Refusal>
+    ensures { result ≡ full_saves (option_copied run.entry) }
+{
+    match run {
+        None => Some(Refusal::NoTransaction),
+        Some(run) => {
+            if 16 <= run.saves().len() {
+                return Some(Refusal::TooManySavepoints);
+            }
+            None
+        }
+    }
+}
+
+/// A transaction without a savepoint of this name, or none.
+fn no_save(run: Option<&PlainTransaction>, name: &Name) -> Option<Refusal>
+    ensures { result ≡ no_save (option_copied run.entry) name.now }
+{
+    match run {
+        None => Some(Refusal::NoTransaction),
+        Some(run) => {
+            if run.has_save(name) {
+                return None;
+            }
+            Some(Refusal::NoSavepoint { name: name.again() })
+        }
+    }
+}
+
+/// Whether a write changes schemas or indexes.
+fn is_ddl(write: &Write) -> bool
+    ensures { result ≡ is_ddl write.now }
+{
+    match write {
+        Write::CreateTable { .. }
+        | Write::DropTable { .. }
+        | Write::CreateIndex { .. }
+        | Write::DropIndex { .. } => true,
+        Write::Insert { .. }
+        | Write::Load { .. }
+        | Write::Delete { .. }
+        | Write::Update { .. } => false,
+    }
+}
