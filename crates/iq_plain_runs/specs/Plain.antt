@@ -5,9 +5,11 @@ use Rattle.iq_base.specs.Shorts.{Name}
 use Rattle.iq_base.specs.declared.refusals.Refusal.{Refusal}
 use Rattle.iq_ast.specs.declared.statements.Statement.{Statement}
 use Rattle.iq_model.specs.declared.scripts.Line.{Line}
-use Rattle.iq_statements.specs.Checks.{first_refusal}
+use Rattle.std.specs.Option.{option_or}
+use Rattle.iq_statements.specs.Checks.{first_refusal, first_found}
+use Rattle.iq_statements.specs.Statements.{statement_checks, room_checks}
 use Rattle.iq_replay.specs.State.{State, Session, fresh, Standing, idle, lost, running, Run, has_name}
-use Rattle.iq_replay.specs.Refusals.{line_checks}
+use Rattle.iq_replay.specs.Refusals.{line_checks, lost_refusal, at_node, excluded_refusal, before_line, transaction_refusal, reader_refusal, locked_refusal, later_refusal, wanted}
 
 -- a session's standing: its transaction, or none, which was lost or not
 abbrev pub standing_of : Bool → Option Run → Standing
@@ -35,10 +37,21 @@ abbrev pub table_not_held : List Name → Option Name → Option Name
 table_not_held held None = None
 table_not_held held (Some name) = if has_name held name then None else Some name
 
--- the first refusal of a statement in a session, where it is there
-abbrev pub refusal_in : State → ℕ → Statement → Option Session → Option Refusal
-refusal_in s place statement None = None
-refusal_in s place statement (Some session) = first_refusal (line_checks s place session statement)
+-- the first refusal behind the names and values of a statement: of a lock, of a later commit, of room
+abbrev pub behind_refusal : State → ℕ → Statement → Run → Option Refusal
+behind_refusal s place statement run =
+    option_or (first_found (locked_refusal s.sessions place) (wanted statement run))
+    (option_or (first_found (later_refusal s.wrote run.snapshot) (wanted statement run)) (first_refusal (room_checks statement run.start.seen)))
 
-abbrev pub refusal_at : State → ℕ → Statement → Option Refusal
-refusal_at s place statement = refusal_in s place statement (slice_get s.sessions place)
+-- the first refusal that only a running transaction can meet, where nothing has halted
+abbrev pub run_refusal : State → ℕ → Statement → Option Run → Option Refusal
+run_refusal s place statement None = None
+run_refusal s place statement (Some run) = option_or (first_refusal (statement_checks statement run.start.seen)) (behind_refusal s place statement run)
+
+-- the first refusal of a session's statement, where nothing has halted
+abbrev pub session_refusal : State → ℕ → Session → Statement → Option Refusal
+session_refusal s place session statement =
+    option_or (lost_refusal (slice_get s.nodes session.node) session.standing)
+    (option_or (at_node excluded_refusal (slice_get s.nodes session.node))
+    (option_or (transaction_refusal (before_line session.standing) statement)
+    (option_or (reader_refusal (slice_get s.nodes session.node) statement) (run_refusal s place statement (run_of session.standing)))))

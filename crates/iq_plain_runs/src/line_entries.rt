@@ -1,6 +1,8 @@
 //! What the entries of a session's line change in the state.
-ghost use Rattle.std.specs.Prelude.{◌≡◌, ◌<◌, ◌+◌, ◌^◌, ◌||◌, IfOk, OnOk, nat_eq};
+ghost use Rattle.std.specs.Prelude.{◌≡◌, ◌<◌, ◌+◌, ◌^◌, ◌||◌, Some, IfOk, OnOk, nat_eq};
 ghost use Rattle.std.specs.List.{slice_get};
+ghost use Rattle.iq_statements.specs.Statements.{HasMeaning};
+ghost use Rattle.iq_plain_tables.specs.Plain.{HasFewParts};
 ghost use Rattle.iq_model.specs.declared.replies.Said.TheVariants as saids;
 ghost use Rattle.iq_replay.specs.State.{with_session};
 ghost use Rattle.iq_replay.specs.Commits.{database_of, with_commit};
@@ -9,6 +11,7 @@ ghost use Rattle.iq_replay.specs.Changes.{statement_of, begins, locks_more, take
 use crate::commits::{committed, written_at, written_names};
 use crate::state::PlainState;
 use crate::transactions::PlainWork;
+use iq_ast::Statement;
 use iq_base::{Locks, Name, NoMemory, Refusal};
 use iq_plain_tables::{PlainTable, copied_tables};
 use std::alloc::Global;
@@ -56,12 +59,20 @@ impl<'a> PlainState<'a> {
 
     /// The statement of a line took effect.
     #[tactic(auto, using(crate::proofs::Places::changed_at_past))]
-    pub(crate) fn done(&mut self, alloc: Global, s: u32, l: u32) -> Result<(), NoMemory>
-        ensures { OnOk result (self.new ≡ with_session s (λ session. takes_effect (statement_of session.left) l session) self.old) }
+    pub(crate) fn done(
+        &mut self,
+        alloc: Global,
+        s: u32,
+        l: u32,
+        statement: &Statement,
+    ) -> Result<(), NoMemory>
+        requires meaning { HasMeaning statement.now }
+        requires few { HasFewParts statement.now }
+        ensures { OnOk result (self.new ≡ with_session s (takes_effect (Some statement.now) l) self.old) }
     {
         let place = s as usize;
         if place < self.sessions.len() {
-            self.sessions[place].take(alloc, l)?;
+            self.sessions[place].take(alloc, l, statement)?;
         }
         Ok(())
     }

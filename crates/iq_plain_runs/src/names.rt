@@ -25,7 +25,7 @@ pub(crate) fn has_name(names: &[Name], name: &Name) -> bool
 }
 
 /// The names that aren't held yet.
-#[tactic(auto, using(crate::proofs::Names::not_held_locks))]
+#[tactic(auto, using(crate::proofs::Held::not_held_locks))]
 fn not_held(held: &[Name], names: &Locks) -> Locks
     ensures { result ≡ not_held held.now names.now }
 {

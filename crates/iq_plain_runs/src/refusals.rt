@@ -2,13 +2,12 @@
 ghost use Rattle.std.specs.Prelude.{◌≡◌, IfOk};
 ghost use Rattle.std.specs.List.{slice_get};
 ghost use Rattle.std.specs.Option.{option_copied, option_or};
-ghost use Rattle.iq_model.specs.Scripts.{HasFewTuples};
+ghost use Rattle.iq_plain_tables.specs.Plain.{HasFewParts};
 ghost use Rattle.iq_statements.specs.Checks.{first_refusal, first_found};
 ghost use Rattle.iq_statements.specs.Statements.{HasMeaning, is_ddl};
-ghost use Rattle.iq_replay.specs.State.{running};
 ghost use Rattle.iq_replay.specs.Commits.{latest_of};
-ghost use Rattle.iq_replay.specs.Refusals.{lost_refusal, at_node, excluded_refusal, reader_refusal, before_line, no_save, full_saves, transaction_refusal, locked_refusal, later_refusal, holder_from, run_checks, line_checks};
-ghost use Rattle.iq_plain_runs.specs.Plain.{refusal_at};
+ghost use Rattle.iq_replay.specs.Refusals.{lost_refusal, at_node, excluded_refusal, reader_refusal, before_line, no_save, full_saves, transaction_refusal, locked_refusal, later_refusal, holder_from, line_checks};
+ghost use Rattle.iq_plain_runs.specs.Plain.{session_refusal, run_refusal, behind_refusal};
 
 use crate::names::wanted;
 use crate::nodes::PlainNode;
@@ -21,24 +20,24 @@ use iq_plain_tables::{room_refusal, statement_refusal};
 use std::alloc::Global;
 
 impl<'a> PlainState<'a> {
-    /// The first refusal of a statement in a session.
+    /// The first refusal of a session's statement.
+    #[tactic(auto, using(crate::proofs::Found::line_first))]
     pub(crate) fn refusal(
         &self,
         alloc: Global,
         s: u32,
+        session: &PlainSession<'a>,
         statement: &Statement,
     ) -> Result<Option<Refusal>, NoMemory>
         requires meaning { HasMeaning statement.now }
-        requires few { HasFewTuples statement.now }
-        ensures { IfOk result (λ found. found ≡ refusal_at self.now s statement.now) }
+        requires few { HasFewParts statement.now }
+        ensures { IfOk result (λ found. found ≡ first_refusal (line_checks self.now s session.now statement.now)) }
     {
-        match self.sessions.get(s as usize) {
-            None => Ok(None),
-            Some(session) => self.session_refusal(alloc, s, session, statement),
-        }
+        let _ = &self.closing;
+        self.session_refusal(alloc, s, session, statement)
     }
 
-    /// The first refusal of a session's statement.
+    /// The same, as the tests follow each other.
     fn session_refusal(
         &self,
         alloc: Global,
@@ -47,8 +46,8 @@ impl<'a> PlainState<'a> {
         statement: &Statement,
     ) -> Result<Option<Refusal>, NoMemory>
         requires meaning { HasMeaning statement.now }
-        requires few { HasFewTuples statement.now }
-        ensures { IfOk result (λ found. found ≡ first_refusal (line_checks self.now s session.now statement.now)) }
+        requires few { HasFewParts statement.now }
+        ensures { IfOk result (λ found. found ≡ session_refusal self.now s session.now statement.now) }
     {
         let node = self.node_at(session.node());
         if let Some(cause) = lost_refusal(node, session) {
@@ -63,10 +62,7 @@ impl<'a> PlainState<'a> {
         if let Some(cause) = reader_refusal(node, statement) {
             return Ok(Some(cause));
         }
-        match session.run() {
-            None => Ok(None),
-            Some(run) => self.run_refusal(alloc, s, run, statement),
-        }
+        self.run_refusal(alloc, s, session.run(), statement)
     }
 
     /// The node at a place.
@@ -77,8 +73,28 @@ impl<'a> PlainState<'a> {
     }
 
     /// The first refusal that only a running transaction can meet.
-    #[tactic(auto, using(crate::proofs::Found::first_refusal_append))]
     fn run_refusal(
+        &self,
+        alloc: Global,
+        s: u32,
+        run: Option<&PlainTransaction>,
+        statement: &Statement,
+    ) -> Result<Option<Refusal>, NoMemory>
+        requires meaning { HasMeaning statement.now }
+        requires few { HasFewParts statement.now }
+        ensures { IfOk result (λ found. found ≡ run_refusal self.now s statement.now (option_copied run.entry)) }
+    {
+        let Some(run) = run else {
+            return Ok(None);
+        };
+        match statement_refusal(alloc, statement, run.start().seen())? {
+            Some(cause) => Ok(Some(cause)),
+            None => self.behind_refusal(alloc, s, run, statement),
+        }
+    }
+
+    /// The first refusal behind the names and values of a statement.
+    fn behind_refusal(
         &self,
         alloc: Global,
         s: u32,
@@ -86,12 +102,9 @@ impl<'a> PlainState<'a> {
         statement: &Statement,
     ) -> Result<Option<Refusal>, NoMemory>
         requires meaning { HasMeaning statement.now }
-        requires few { HasFewTuples statement.now }
-        ensures { IfOk result (λ found. found ≡ first_refusal (run_checks self.now s (running run.entry.now) statement.now)) }
+        requires few { HasFewParts statement.now }
+        ensures { IfOk result (λ found. found ≡ behind_refusal self.now s statement.now run.entry.now) }
     {
-        if let Some(cause) = statement_refusal(alloc, statement, run.start().seen())? {
-            return Ok(Some(cause));
-        }
         let names = wanted(statement, run);
         if let Some(cause) = self.locked_refusal(s, &names)? {
             return Ok(Some(cause));

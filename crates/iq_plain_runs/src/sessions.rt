@@ -1,6 +1,8 @@
 //! Sessions: the line under way, the lines that are left, and the replies.
-ghost use Rattle.std.specs.Prelude.{◌≡◌, IfOk, OnOk, map, unwrap_or};
+ghost use Rattle.std.specs.Prelude.{◌≡◌, IfOk, OnOk, Some, map, unwrap_or};
 ghost use Rattle.std.specs.Option.{option_copied};
+ghost use Rattle.iq_statements.specs.Statements.{HasMeaning};
+ghost use Rattle.iq_plain_tables.specs.Plain.{HasFewParts, HasFewWriteParts};
 ghost use Rattle.iq_model.specs.declared.replies.Said.TheVariants as saids;
 ghost use Rattle.iq_replay.specs.Said.{write_said, statement_said, numbered};
 ghost use Rattle.iq_replay.specs.Changes.{statement_of, ends_line, ends_run, works, begins, locks_more, takes_effect, refused, commits, ends, rolls_back, saves_as, back_to, release_to, loses};
@@ -132,7 +134,7 @@ impl<'a> PlainSession<'a> {
     }
 
     /// The statement of the line under way.
-    fn statement(&self) -> Option<&'a Statement>
+    pub(crate) fn statement(&self) -> Option<&'a Statement>
         ensures { option_copied result ≡ statement_of self.now.left }
     {
         match self.left.first() {
@@ -199,12 +201,16 @@ impl<'a> PlainSession<'a> {
     }
 
     /// The statement of the line takes effect.
-    pub(crate) fn take(&mut self, alloc: Global, l: u32) -> Result<(), NoMemory>
-        ensures { OnOk result (self.new ≡ takes_effect (statement_of self.old.left) l self.old) }
+    pub(crate) fn take(
+        &mut self,
+        alloc: Global,
+        l: u32,
+        statement: &Statement,
+    ) -> Result<(), NoMemory>
+        requires meaning { HasMeaning statement.now }
+        requires few { HasFewParts statement.now }
+        ensures { OnOk result (self.new ≡ takes_effect (Some statement.now) l self.old) }
     {
-        let Some(statement) = self.statement() else {
-            return Ok(());
-        };
         let Some(run) = &mut self.run else {
             return Ok(());
         };
@@ -336,6 +342,7 @@ fn said_of(
     statement: &Statement,
     tables: &[PlainTable],
 ) -> Result<Option<Said>, NoMemory>
+    requires { HasFewParts statement.now }
     ensures { IfOk result (λ said. said ≡ statement_said statement.now tables.now) }
 {
     match statement {
@@ -353,24 +360,17 @@ fn said_of(
 
 /// What a write is answered, before it has a number.
 fn write_said(alloc: Global, write: &Write, tables: &[PlainTable]) -> Result<Said, NoMemory>
+    requires { HasFewWriteParts write.now }
     ensures { IfOk result (λ said. said ≡ write_said write.now tables.now) }
 {
     let commit = None;
+    let rows = count(alloc, write, tables)?;
     match write {
         Write::CreateTable { .. } | Write::CreateIndex { .. } => Ok(Said::Created { commit }),
         Write::DropTable { .. } | Write::DropIndex { .. } => Ok(Said::Dropped { commit }),
-        Write::Insert { .. } | Write::Load { .. } => {
-            let rows = count(alloc, write, tables)?;
-            Ok(Said::Inserted { rows, commit })
-        }
-        Write::Delete { .. } => {
-            let rows = count(alloc, write, tables)?;
-            Ok(Said::Deleted { rows, commit })
-        }
-        Write::Update { .. } => {
-            let rows = count(alloc, write, tables)?;
-            Ok(Said::Updated { rows, commit })
-        }
+        Write::Insert { .. } | Write::Load { .. } => Ok(Said::Inserted { rows, commit }),
+        Write::Delete { .. } => Ok(Said::Deleted { rows, commit }),
+        Write::Update { .. } => Ok(Said::Updated { rows, commit }),
     }
 }
 

@@ -2,7 +2,8 @@
 ghost use Rattle.std.specs.Prelude.{◌≡◌, ◌∷◌, ◌++◌, ◌≤◌, [], IfOk, OnOk, is_some, length, drop};
 ghost use Rattle.iq_base.specs.Locks.{catalog_name};
 ghost use Rattle.iq_conditions.specs.Servers.{same_name};
-ghost use Rattle.iq_replay.specs.State.{Work, Run, Save};
+ghost use Rattle.iq_statements.specs.Statements.{HasMeaning};
+ghost use Rattle.iq_plain_tables.specs.Plain.{HasFewParts};
 ghost use Rattle.iq_replay.specs.Refusals.{save_named};
 ghost use Rattle.iq_replay.specs.Changes.{begin_work, begin_run, holds_more, work_after, saves_as, saves_from, back_to, release_to, sees, seen_at};
 
@@ -98,6 +99,8 @@ impl PlainWork {
 
     /// What a statement leaves.
     fn after(&self, alloc: Global, statement: &Statement) -> Result<PlainWork, NoMemory>
+        requires meaning { HasMeaning statement.now }
+        requires few { HasFewParts statement.now }
         ensures { IfOk result (λ after. after ≡ work_after statement.now self.now) }
     {
         let mut created = copied_names(alloc, self.created.as_slice())?;
@@ -205,7 +208,7 @@ impl PlainTransaction {
     pub(crate) fn has_save(&self, name: &Name) -> bool
         ensures { result ≡ is_some (save_named self.entry.now.saves name.now) }
     {
-        self.saves.iter().any(|save| save.is_named(name))
+        has_save(self.saves.as_slice(), name)
     }
 
     /// Holds names more.
@@ -224,6 +227,8 @@ impl PlainTransaction {
 
     /// Takes the effect of a statement.
     pub(crate) fn take(&mut self, alloc: Global, statement: &Statement) -> Result<(), NoMemory>
+        requires meaning { HasMeaning statement.now }
+        requires few { HasFewParts statement.now }
         ensures { OnOk result (self.new ≡ record (self.old) { now = work_after statement.now self.old.now }) }
     {
         self.now = self.now.after(alloc, statement)?;
@@ -283,6 +288,18 @@ impl PlainTransaction {
         self.saves = kept;
         Ok(())
     }
+}
+
+/// Whether there is a savepoint of a name.
+fn has_save(saves: &[PlainSave], name: &Name) -> bool
+    ensures { result ≡ is_some (save_named saves.now name.now) }
+{
+    for save in saves {
+        if save.is_named(name) {
+            return true;
+        }
+    }
+    false
 }
 
 /// How many savepoints are newer than the newest of a name.

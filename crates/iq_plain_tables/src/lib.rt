@@ -1,11 +1,12 @@
 //! Stub of the plain statements: signatures alone.
 #![tactic(auto)]
 ghost use Rattle.std.specs.Prelude.{◌≡◌, IfOk};
+ghost use Rattle.iq_plain_tables.specs.Plain.{HasFewParts, HasFewWriteParts};
 ghost use Rattle.iq_statements.specs.Tables.{table_of, as_seen};
 ghost use Rattle.iq_statements.specs.Answers.{answer};
 ghost use Rattle.iq_statements.specs.Effects.{count};
 ghost use Rattle.iq_statements.specs.Checks.{first_refusal};
-ghost use Rattle.iq_statements.specs.Statements.{statement_checks, room_checks, tables_after};
+ghost use Rattle.iq_statements.specs.Statements.{HasMeaning, statement_checks, room_checks, tables_after};
 
 use iq_ast::{Select, Statement, Write};
 use iq_base::{Column, IndexSpec, Listed, Name, NoMemory, Refusal, Row};
@@ -93,6 +94,8 @@ pub fn tables_after(
     statement: &Statement,
     tables: &[PlainTable],
 ) -> Result<PlainTables, NoMemory>
+    requires meaning { HasMeaning statement.now }
+    requires few { HasFewParts statement.now }
     ensures { IfOk result (λ after. after ≡ tables_after statement.now tables.now) }
 {
     let _ = alloc;
@@ -107,6 +110,8 @@ pub fn statement_refusal(
     statement: &Statement,
     tables: &[PlainTable],
 ) -> Result<Option<Refusal>, NoMemory>
+    requires meaning { HasMeaning statement.now }
+    requires few { HasFewParts statement.now }
     ensures { IfOk result (λ found. found ≡ first_refusal (statement_checks statement.now tables.now)) }
 {
     let _ = alloc;
@@ -121,6 +126,8 @@ pub fn room_refusal(
     statement: &Statement,
     tables: &[PlainTable],
 ) -> Result<Option<Refusal>, NoMemory>
+    requires meaning { HasMeaning statement.now }
+    requires few { HasFewParts statement.now }
     ensures { IfOk result (λ found. found ≡ first_refusal (room_checks statement.now tables.now)) }
 {
     let _ = alloc;
@@ -131,6 +138,7 @@ pub fn room_refusal(
 
 /// How many rows a write inserts, removes or changes.
 pub fn count(alloc: Global, write: &Write, tables: &[PlainTable]) -> Result<u32, NoMemory>
+    requires { HasFewWriteParts write.now }
     ensures { IfOk result (λ rows. rows ≡ count write.now tables.now) }
 {
     let _ = alloc;

@@ -1,4 +1,4 @@
-use Rattle.std.proofs.Common.{rules, arith, ◌≡◌, ◌<◌, length, refl, vec_len}
+use Rattle.std.proofs.Common.{Some, rules, arith, ◌≡◌, ◌<◌, length, refl, vec_len}
 use Rattle.iq_model.specs.declared.replies.Said.TheVariants as saids
 use Rattle.iq_replay.specs.State.{Session}
 use Rattle.iq_replay.specs.Commits.{database_of}
@@ -9,5 +9,5 @@ use Rattle.iq_plain_runs.proofs.state.PlainState.done.Goals as goal
 pub returns-in_ok-take : goal.returns-in_ok-take
 returns-in_ok-take c =
     let within : c.args.s < length c.self.inside.sessions.items = search rules in
-    let changed = set_is_changed c.args.s (λ (session : Session). takes_effect (statement_of session.left) c.args.l session) c.self.inside.sessions.items _ _ within c.index_mut.ensures.value c.in_ok-take.ensures in
+    let changed = set_is_changed c.args.s (takes_effect (Some c.args.statement.now) c.args.l) c.self.inside.sessions.items _ _ within c.index_mut.ensures.value c.in_ok-take.ensures in
     rw (← c.self.view_is, changed) refl

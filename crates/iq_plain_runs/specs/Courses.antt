@@ -1,0 +1,51 @@
+-- A run so far, and what may come next in it.
+use Rattle.std.specs.Prelude.{◌≡◌, ◌≤◌, ◌||◌, ℕ, ⊤, Bool, true, false, List, [], ◌∷◌, ◌++◌, Option, Some, None, length, nat_le}
+use Rattle.std.specs.List.{AllByRecursion, slice_get}
+use Rattle.iq_ast.specs.declared.statements.Statement.{Statement}
+use Rattle.iq_history.specs.declared.entries.Entry.{Entry}
+use Rattle.iq_model.specs.declared.scripts.Deed.TheVariants as deeds
+use Rattle.iq_replay.specs.State.{State, Session}
+use Rattle.iq_replay.specs.Asked.{FirstIs}
+use Rattle.iq_replay.specs.Entries.{IsPossible, change}
+use Rattle.iq_replay.specs.Histories.{replay, IsLegal, IsInOrder, closes, line_of}
+use Rattle.iq_replay.specs.Laws.{low_behind}
+use Rattle.iq_script_order.specs.Fixed.{IsUndisturbed}
+
+-- LINES
+
+-- the line under way of the session at this place: its number is l, and it does this statement
+pub record IsLineOf (s : State) (place l : ℕ) (session : Session) (statement : Statement) : Type 0 where
+  pub open_still : s.closing ≡ false
+  pub found : slice_get s.sessions place ≡ Some session
+  pub under_way : FirstIs session.left l (λ deed. deed ≡ deeds.Statement statement)
+
+-- an entry of a line that is possible, and that nothing disturbed
+pub record IsNextOf (s : State) (l : ℕ) (e : Entry) : Type 0 where
+  pub possible : IsPossible s e
+  pub undisturbed : IsUndisturbed e
+  pub line : line_of e ≡ l
+
+-- such an entry, if one was found
+abbrev pub IsFoundOf : State → ℕ → Option Entry → Type 0
+IsFoundOf s l None = ⊤
+IsFoundOf s l (Some e) = IsNextOf s l e
+
+-- COURSES
+
+-- where a run began, the state that its entries leave, and its entries
+pub record Course : Type 0 where
+  pub first : State
+  pub state : State
+  pub entries : List Entry
+
+-- the entries are legal and in script order, nothing disturbed them, and they leave the state
+pub record IsCourse (first state : State) (es : List Entry) : Type 0 where
+  pub legal : IsLegal first es
+  pub state_is : state ≡ replay first es
+  pub ordered : IsInOrder 1 es
+  pub undisturbed : AllByRecursion IsUndisturbed es
+  pub few : state.latest ≤ length es
+
+-- an entry comes
+abbrev pub came : Entry → Course → Course
+came e course = record course { state = change course.state e; entries = course.entries ++ e ∷ [] }

@@ -1,0 +1,73 @@
+//! What an entry changes in the state.
+ghost use Rattle.std.specs.Prelude.{◌≡◌, ◌<◌, ◌+◌, ◌^◌, OnOk, OnTrue};
+ghost use Rattle.std.specs.Option.{option_copied};
+ghost use Rattle.iq_statements.specs.Statements.{HasMeaning};
+ghost use Rattle.iq_plain_tables.specs.Plain.{HasFewParts};
+ghost use Rattle.iq_history.specs.declared.entries.Entry.TheVariants as entries;
+ghost use Rattle.iq_replay.specs.Entries.{change};
+ghost use Rattle.iq_script_order.specs.Fixed.{IsUndisturbed};
+
+use crate::no_run::NoRun;
+use crate::plain::is_plain;
+use crate::state::PlainState;
+use iq_history::Entry;
+use std::alloc::Global;
+
+impl<'a> PlainState<'a> {
+    /// The state as an entry leaves it.
+    #[tactic(auto, using(crate::proofs::Changed::change_begin, crate::proofs::Changed::change_lock, crate::proofs::Changed::change_refused, crate::proofs::Changed::change_commit, crate::proofs::Changed::change_end, crate::proofs::Changed::change_rollback, crate::proofs::Changed::change_savepoint, crate::proofs::Changed::change_back, crate::proofs::Changed::change_release, crate::proofs::Changed::change_sync))]
+    pub(crate) fn change(&mut self, alloc: Global, entry: &Entry) -> Result<(), NoRun>
+        requires undisturbed { IsUndisturbed entry.now }
+        requires more { self.old.latest + 1 < 2 ^ 64 }
+        ensures { OnOk result (self.new ≡ change self.old entry.now) }
+    {
+        match entry {
+            Entry::Begin { s, l, c } => self.begin(alloc, *s, *l, *c)?,
+            Entry::Lock { s, l: _, names } => self.lock(*s, names)?,
+            Entry::Done { s, l } => self.done_here(alloc, *s, *l)?,
+            Entry::Refused {
+                s: Some(s),
+                l,
+                cause,
+            } => self.refuse(alloc, *s, *l, cause.again())?,
+            Entry::Commit { s, l, c } => self.commit(alloc, *s, *l, *c)?,
+            Entry::End { s, l } => self.end(*s, *l)?,
+            Entry::Rollback { s, l } => self.roll_back(*s, *l)?,
+            Entry::Savepoint { s, l, name } => self.save(alloc, *s, *l, name)?,
+            Entry::Back { s, l, name } => self.go_back(alloc, *s, *l, name)?,
+            Entry::Release { s, l, name } => self.release(*s, *l, name)?,
+            Entry::Sync { s, l, c } => self.sync(*s, *l, *c)?,
+            Entry::Refused { s: None, .. }
+            | Entry::Halt { .. }
+            | Entry::Apply { .. }
+            | Entry::Send { .. }
+            | Entry::Lose { .. }
+            | Entry::Take { .. }
+            | Entry::Own { .. }
+            | Entry::Restart { .. }
+            | Entry::Exclude { .. }
+            | Entry::Include { .. }
+            | Entry::Space { .. }
+            | Entry::Versions { .. } => return Err(NoRun::NotPlain),
+        }
+        Ok(())
+    }
+
+    /// The statement of a session's line took effect.
+    #[tactic(auto, using(crate::proofs::Changed::change_done))]
+    fn done_here(&mut self, alloc: Global, s: u32, l: u32) -> Result<(), NoRun>
+        ensures { OnOk result (self.new ≡ change self.old (entries.Done s l)) }
+    {
+        let Some(session) = self.sessions.get(s as usize) else {
+            return Err(NoRun::NotPlain);
+        };
+        let Some(statement) = session.statement() else {
+            return Err(NoRun::NotPlain);
+        };
+        if !is_plain(statement) {
+            return Err(NoRun::NotPlain);
+        }
+        self.done(alloc, s, l, statement)?;
+        Ok(())
+    }
+}
