@@ -1,7 +1,7 @@
 -- What an entry of a line changes, as the state's methods say it.
 use Rattle.std.specs.Prelude.{◌≡◌, refl, ℕ, zero, suc, Bool, List, [], ◌∷◌, ◌||◌, Option, Some, None, nat_eq}
 use Rattle.std.specs.List.{slice_get}
-use Rattle.std.proofs.Common.{ap, absurd}
+use Rattle.std.proofs.Common.{ap}
 use Rattle.iq_base.specs.Shorts.{Name}
 use Rattle.iq_base.specs.declared.refusals.Refusal.{Refusal}
 use Rattle.iq_base.specs.declared.refusals.Refusal.TheVariants as refusals

@@ -1,4 +1,6 @@
 pub mod Changed
+pub mod Comes
 pub mod Found
 pub mod Held
+pub mod Next
 pub mod Places

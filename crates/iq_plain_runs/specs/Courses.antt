@@ -1,13 +1,13 @@
 -- A run so far, and what may come next in it.
-use Rattle.std.specs.Prelude.{◌≡◌, ◌≤◌, ◌||◌, ℕ, ⊤, Bool, true, false, List, [], ◌∷◌, ◌++◌, Option, Some, None, length, nat_le}
+use Rattle.std.specs.Prelude.{◌≡◌, ◌≤◌, ℕ, ⊤, Bool, false, List, [], Option, Some, None}
 use Rattle.std.specs.List.{AllByRecursion, slice_get}
 use Rattle.iq_ast.specs.declared.statements.Statement.{Statement}
 use Rattle.iq_history.specs.declared.entries.Entry.{Entry}
 use Rattle.iq_model.specs.declared.scripts.Deed.TheVariants as deeds
 use Rattle.iq_replay.specs.State.{State, Session}
 use Rattle.iq_replay.specs.Asked.{FirstIs}
-use Rattle.iq_replay.specs.Entries.{IsPossible, change}
-use Rattle.iq_replay.specs.Histories.{replay, IsLegal, IsInOrder, closes, line_of}
+use Rattle.iq_replay.specs.Entries.{IsPossible}
+use Rattle.iq_replay.specs.Histories.{replay, IsLegal, IsInOrder, AllEnded, line_of}
 use Rattle.iq_replay.specs.Laws.{low_behind}
 use Rattle.iq_script_order.specs.Fixed.{IsUndisturbed}
 
@@ -38,14 +38,15 @@ pub record Course : Type 0 where
   pub state : State
   pub entries : List Entry
 
--- the entries are legal and in script order, nothing disturbed them, and they leave the state
-pub record IsCourse (first state : State) (es : List Entry) : Type 0 where
+-- the entries are legal and in script order, none behind this line, nothing disturbed them, and they leave the state
+pub record IsCourse (first state : State) (es : List Entry) (low : ℕ) : Type 0 where
   pub legal : IsLegal first es
   pub state_is : state ≡ replay first es
   pub ordered : IsInOrder 1 es
+  pub low_is : low_behind 1 es ≤ low
   pub undisturbed : AllByRecursion IsUndisturbed es
-  pub few : state.latest ≤ length es
 
--- an entry comes
-abbrev pub came : Entry → Course → Course
-came e course = record course { state = change course.state e; entries = course.entries ++ e ∷ [] }
+-- all sessions and steps have ended
+pub record IsOver (s : State) : Type 0 where
+  pub sessions : AllEnded s.sessions
+  pub steps : s.steps ≡ []

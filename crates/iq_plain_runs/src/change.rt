@@ -1,5 +1,5 @@
 //! What an entry changes in the state.
-ghost use Rattle.std.specs.Prelude.{◌≡◌, ◌<◌, ◌+◌, ◌^◌, OnOk, OnTrue};
+ghost use Rattle.std.specs.Prelude.{◌≡◌, OnOk};
 ghost use Rattle.std.specs.Option.{option_copied};
 ghost use Rattle.iq_statements.specs.Statements.{HasMeaning};
 ghost use Rattle.iq_plain_tables.specs.Plain.{HasFewParts};
@@ -17,8 +17,7 @@ impl<'a> PlainState<'a> {
     /// The state as an entry leaves it.
     #[tactic(auto, using(crate::proofs::Changed::change_begin, crate::proofs::Changed::change_lock, crate::proofs::Changed::change_refused, crate::proofs::Changed::change_commit, crate::proofs::Changed::change_end, crate::proofs::Changed::change_rollback, crate::proofs::Changed::change_savepoint, crate::proofs::Changed::change_back, crate::proofs::Changed::change_release, crate::proofs::Changed::change_sync))]
     pub(crate) fn change(&mut self, alloc: Global, entry: &Entry) -> Result<(), NoRun>
-        requires undisturbed { IsUndisturbed entry.now }
-        requires more { self.old.latest + 1 < 2 ^ 64 }
+        requires { IsUndisturbed entry.now }
         ensures { OnOk result (self.new ≡ change self.old entry.now) }
     {
         match entry {

@@ -1,15 +1,14 @@
 //! A run so far: its entries, and the state that they leave.
-ghost use Rattle.std.specs.Prelude.{◌≡◌, ◌≤◌, ◌||◌, ◌<◌, ◌+◌, ◌^◌, IfOk, OnOk, nat_le, Bool};
-ghost use Rattle.std.specs.Bool.{true};
-ghost use Rattle.iq_replay.specs.Entries.{IsPossible};
-ghost use Rattle.iq_replay.specs.Histories.{closes, line_of};
-ghost use Rattle.iq_replay.specs.Laws.{low_behind};
-ghost use Rattle.iq_script_order.specs.Fixed.{IsUndisturbed};
-ghost use Rattle.iq_plain_runs.specs.Courses.{came};
+ghost use Rattle.std.specs.Prelude.{◌≡◌, Some, IfOk};
+ghost use Rattle.iq_replay.specs.Lines.{first_running};
+ghost use Rattle.iq_script_order.specs.Fixed.{IsUndisturbedRun};
+ghost use Rattle.iq_plain_runs.specs.Courses.{IsNextOf};
 
 use crate::no_run::NoRun;
 use crate::state::PlainState;
+use iq_base::Listed;
 use iq_history::Entry;
+use iq_model::Line;
 use std::alloc::Global;
 use std::marker::Model;
 use std::snapshot::Snapshot;
@@ -19,33 +18,45 @@ use std::snapshot::Snapshot;
 pub(crate) struct PlainCourse<'a> {
     first: Snapshot<PlainState<'a>>,
     state: PlainState<'a>,
-    entries: Vec<Entry>,
+    entries: Listed<Entry>,
     low: u32,
 }
 
 impl<'a> Model for PlainCourse<'a> {
     ghost use Rattle.std.specs.Coded.{codes};
     ghost use Rattle.iq_ast.specs.contracts.conditions.Cond as cond;
-    ghost use Rattle.iq_plain_runs.specs.Courses.{Course, IsCourseAt};
+    ghost use Rattle.iq_plain_runs.specs.Courses.{Course, IsCourse};
 
     ghost Value = { Course };
 
     ghost coded = { Prim.hlevel (codes, cond.the_row.coded) };
 
-    ghost view = { λ it. record { first = it.first.value; state = it.state; entries = it.entries.items } };
+    ghost view = { λ it. record { first = it.first.value; state = it.state; entries = it.entries } };
 
-    ghost invariant = { λ it. IsCourseAt it.first.value it.state it.entries.items it.low };
+    ghost invariant = { λ it. IsCourse it.first.value it.state it.entries it.low };
 }
 
 impl<'a> PlainCourse<'a> {
+    /// A run without entries.
+    pub(crate) fn begun(alloc: Global, state: PlainState<'a>) -> PlainCourse<'a>
+        ensures { result.first ≡ state }
+    {
+        PlainCourse {
+            first: Snapshot::of(&state),
+            state,
+            entries: Listed::new(alloc),
+            low: 1,
+        }
+    }
+
     /// The state so far.
     pub(crate) fn state(&self) -> &PlainState<'a>
-        ensures { result.now ≡ self.now.state }
+        ensures { result.now ≡ self.entry.now.state }
     {
         &self.state
     }
 
-    /// An entry comes.
+    /// An entry of a line comes.
     pub(crate) fn put(self, alloc: Global, entry: Entry, l: u32) -> Result<PlainCourse<'a>, NoRun>
         requires { IsNextOf self.state l entry }
         ensures { IfOk result (λ course. course.first ≡ self.first) }
@@ -67,5 +78,87 @@ impl<'a> PlainCourse<'a> {
             entries,
             low: l,
         })
+    }
+
+    /// A session is rolled back at the script's end.
+    pub(crate) fn put_close(self, alloc: Global, s: u32) -> Result<PlainCourse<'a>, NoRun>
+        requires { first_running 0 self.state.sessions ≡ Some s }
+        ensures { IfOk result (λ course. course.first ≡ self.first) }
+    {
+        let PlainCourse {
+            first,
+            mut state,
+            mut entries,
+            low,
+        } = self;
+        let entry = Entry::Rollback { s, l: 0 };
+        state.change(alloc, &entry)?;
+        entries.push(entry)?;
+        Ok(PlainCourse {
+            first,
+            state,
+            entries,
+            low,
+        })
+    }
+
+    /// A line is run.
+    pub(crate) fn line(self, alloc: Global, line: &Line) -> Result<PlainCourse<'a>, NoRun>
+        ensures { IfOk result (λ course. course.first ≡ self.first) }
+    {
+        match line.session {
+            None => Err(NoRun::NotPlain),
+            Some(s) => self.session_line(alloc, s, line.number),
+        }
+    }
+
+    /// A session's line is run: its transaction begins, it locks, takes effect and ends, where these are wanted.
+    fn session_line(self, alloc: Global, s: u32, l: u32) -> Result<PlainCourse<'a>, NoRun>
+        ensures { IfOk result (λ course. course.first ≡ self.first) }
+    {
+        let mut course = self;
+        for _ in 0..4_u32 {
+            if !course.state().is_under_way(s, l) {
+                break;
+            }
+            let Some(entry) = course.state().next(alloc, s, l)? else {
+                return Err(NoRun::NotPlain);
+            };
+            course = course.put(alloc, entry, l)?;
+        }
+        Ok(course)
+    }
+
+    /// The transactions that still run at the script's end are rolled back, in order of their sessions.
+    pub(crate) fn close(self, alloc: Global, sessions: usize) -> Result<PlainCourse<'a>, NoRun>
+        ensures { IfOk result (λ course. course.first ≡ self.first) }
+    {
+        let mut course = self;
+        for _ in 0..sessions {
+            let Some(place) = course.state().first_running() else {
+                break;
+            };
+            let Ok(s) = u32::try_from(place) else {
+                return Err(NoRun::NotPlain);
+            };
+            course = course.put_close(alloc, s)?;
+        }
+        Ok(course)
+    }
+
+    /// The entries of a run that is whole.
+    pub(crate) fn finish(self) -> Result<Listed<Entry>, NoRun>
+        ensures { IfOk result (λ entries. IsUndisturbedRun self.first entries) }
+    {
+        let PlainCourse {
+            first: _,
+            state,
+            entries,
+            low: _,
+        } = self;
+        if !state.is_over() {
+            return Err(NoRun::NotPlain);
+        }
+        Ok(entries)
     }
 }

@@ -1,5 +1,5 @@
 //! What the entries of a session's line change in the state.
-ghost use Rattle.std.specs.Prelude.{◌≡◌, ◌<◌, ◌+◌, ◌^◌, ◌||◌, Some, IfOk, OnOk, nat_eq};
+ghost use Rattle.std.specs.Prelude.{◌≡◌, ◌||◌, Some, IfOk, OnOk, nat_eq};
 ghost use Rattle.std.specs.List.{slice_get};
 ghost use Rattle.iq_statements.specs.Statements.{HasMeaning};
 ghost use Rattle.iq_plain_tables.specs.Plain.{HasFewParts};
@@ -198,7 +198,6 @@ impl<'a> PlainState<'a> {
 
     /// The work of a session's transaction is one commit more, and its node is there.
     pub(crate) fn commit(&mut self, alloc: Global, s: u32, l: u32, c: u64) -> Result<(), NoMemory>
-        requires { self.old.latest + 1 < 2 ^ 64 }
         ensures { OnOk result (self.new ≡ with_session s (commits l c) (with_commit (work_of (slice_get self.old.sessions s)) (record (self.old) { nodes = nodes_at (slice_get self.old.sessions s) c self.old.nodes }))) }
     {
         let work = self.work_of(alloc, s)?;
@@ -233,10 +232,11 @@ impl<'a> PlainState<'a> {
 
     /// One commit more, of a transaction's work.
     fn add_commit(&mut self, alloc: Global, work: &PlainWork) -> Result<(), NoMemory>
-        requires { self.old.latest + 1 < 2 ^ 64 }
         ensures { OnOk result (self.new ≡ with_commit work.now self.old) }
     {
-        let c = self.latest + 1;
+        let Some(c) = self.latest.checked_add(1) else {
+            return Err(NoMemory);
+        };
         let names = written_names(alloc, work)?;
         let tables = committed(alloc, work.seen(), names.as_slice(), self.newest.as_slice())?;
         let mut wrote = written_at(alloc, c, names.as_slice())?;

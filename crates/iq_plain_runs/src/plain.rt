@@ -1,5 +1,5 @@
 //! The statements that the plain program runs.
-ghost use Rattle.std.specs.Prelude.{OnTrue, ◌×◌};
+ghost use Rattle.std.specs.Bool.{OnTrue};
 ghost use Rattle.iq_statements.specs.Statements.{HasMeaning};
 ghost use Rattle.iq_plain_tables.specs.Plain.{HasFewParts};
 

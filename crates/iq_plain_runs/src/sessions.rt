@@ -1,12 +1,17 @@
 //! Sessions: the line under way, the lines that are left, and the replies.
-ghost use Rattle.std.specs.Prelude.{◌≡◌, IfOk, OnOk, Some, map, unwrap_or};
+ghost use Rattle.std.specs.Prelude.{◌≡◌, IfOk, IfSome, OnOk, Some, map, unwrap_or};
+ghost use Rattle.std.specs.Bool.{OnTrue, OnFalse};
 ghost use Rattle.std.specs.Option.{option_copied};
 ghost use Rattle.iq_statements.specs.Statements.{HasMeaning};
 ghost use Rattle.iq_plain_tables.specs.Plain.{HasFewParts, HasFewWriteParts};
 ghost use Rattle.iq_model.specs.declared.replies.Said.TheVariants as saids;
 ghost use Rattle.iq_replay.specs.Said.{write_said, statement_said, numbered};
 ghost use Rattle.iq_replay.specs.Changes.{statement_of, ends_line, ends_run, works, begins, locks_more, takes_effect, refused, commits, ends, rolls_back, saves_as, back_to, release_to, loses};
-ghost use Rattle.iq_replay.specs.State.{has_name, held_by};
+ghost use Rattle.iq_replay.specs.State.{fresh, done, idle, running, has_name, held_by};
+ghost use Rattle.iq_replay.specs.Lines.{runs};
+ghost use Rattle.iq_replay.specs.Histories.{HasEnded};
+ghost use Rattle.iq_replay.specs.Asked.{FirstIs, IsOpen, IsUnlocked};
+ghost use Rattle.iq_model.specs.declared.scripts.Deed.TheVariants as deeds;
 ghost use Rattle.iq_replay.specs.Refusals.{before_line};
 ghost use Rattle.iq_plain_runs.specs.Plain.{fresh_session, run_of, was_lost};
 
@@ -88,7 +93,8 @@ impl<'a> PlainSession<'a> {
 
     /// Its running transaction, if it has one.
     pub(crate) fn run(&self) -> Option<&PlainTransaction>
-        ensures { option_copied result ≡ run_of self.now.standing }
+        ensures value { option_copied result ≡ run_of self.now.standing }
+        ensures runs { IfSome result (λ run. self.now.standing ≡ running run.now) }
     {
         self.run.as_ref()
     }
@@ -98,6 +104,84 @@ impl<'a> PlainSession<'a> {
         ensures { result ≡ was_lost self.now.standing }
     {
         self.lost && self.run.is_none()
+    }
+
+    /// Whether it has no transaction, and lost none.
+    pub(crate) fn is_idle(&self) -> bool
+        ensures { OnTrue result (self.now.standing ≡ idle) }
+    {
+        self.run.is_none() && !self.lost
+    }
+
+    /// Whether its transaction runs.
+    pub(crate) fn runs(&self) -> bool
+        ensures { result ≡ runs self.now.standing }
+    {
+        self.run.is_some()
+    }
+
+    /// Whether no line and no transaction is left.
+    pub(crate) fn has_ended(&self) -> bool
+        ensures { OnTrue result (HasEnded self.now) }
+    {
+        self.left.is_empty() && self.run.is_none()
+    }
+
+    /// Whether its line has no entry yet.
+    pub(crate) fn is_fresh(&self) -> bool
+        ensures { OnTrue result (self.now.stage ≡ fresh) }
+    {
+        match self.stage {
+            PlainStage::Fresh => true,
+            PlainStage::Begun | PlainStage::Locked | PlainStage::Done => false,
+        }
+    }
+
+    /// Whether its line has no lock and no effect yet.
+    pub(crate) fn is_unlocked(&self) -> bool
+        ensures { OnTrue result (IsUnlocked self.now.stage) }
+    {
+        match self.stage {
+            PlainStage::Fresh | PlainStage::Begun => true,
+            PlainStage::Locked | PlainStage::Done => false,
+        }
+    }
+
+    /// Whether its line's statement took effect.
+    pub(crate) fn is_done(&self) -> bool
+        ensures yes { OnTrue result (self.now.stage ≡ done) }
+        ensures no { OnFalse result (IsOpen self.now.stage) }
+    {
+        match self.stage {
+            PlainStage::Done => true,
+            PlainStage::Fresh | PlainStage::Begun | PlainStage::Locked => false,
+        }
+    }
+
+    /// Whether its line under way has this number.
+    pub(crate) fn is_at(&self, l: u32) -> bool {
+        match self.left.first() {
+            None => false,
+            Some(line) => line.number == l,
+        }
+    }
+
+    /// The statement of its line under way, where it has this number.
+    pub(crate) fn statement_at(&self, l: u32) -> Option<&'a Statement>
+        ensures { IfSome result (λ statement. FirstIs self.now.left l (λ deed. deed ≡ deeds.Statement statement.now)) }
+    {
+        match self.left.first() {
+            None => None,
+            Some(line) => {
+                if line.number != l {
+                    return None;
+                }
+                match &line.deed {
+                    Deed::Statement(statement) => Some(statement),
+                    Deed::Step(_) => None,
+                }
+            }
+        }
     }
 
     /// The transaction that it had before its line.

@@ -4,6 +4,7 @@ ghost use Rattle.iq_base.specs.Locks.{catalog_name};
 ghost use Rattle.iq_conditions.specs.Servers.{same_name};
 ghost use Rattle.iq_statements.specs.Statements.{HasMeaning};
 ghost use Rattle.iq_plain_tables.specs.Plain.{HasFewParts};
+ghost use Rattle.iq_replay.specs.State.{has_some};
 ghost use Rattle.iq_replay.specs.Refusals.{save_named};
 ghost use Rattle.iq_replay.specs.Changes.{begin_work, begin_run, holds_more, work_after, saves_as, saves_from, back_to, release_to, sees, seen_at};
 
@@ -195,6 +196,13 @@ impl PlainTransaction {
         ensures { result.now ≡ self.entry.now.now }
     {
         &self.now
+    }
+
+    /// Whether it holds a name.
+    pub(crate) fn holds_some(&self) -> bool
+        ensures { result ≡ has_some self.entry.now.now.held }
+    {
+        !self.now.held.is_empty()
     }
 
     /// Its savepoints, the newest first.

@@ -1,0 +1,32 @@
+use Rattle.std.proofs.Common.{rules, arith, ◌≡◌, ◌≤◌, ◌<◌, ◌+◌, ℕ, Bool, true, false, refl, Option, Some, None, List, [], ◌∙◌, sym, ap, nat_eq}
+use Rattle.std.specs.List.{slice_get}
+use Rattle.iq_ast.specs.declared.statements.Statement.TheVariants as statements
+use Rattle.iq_replay.specs.State.{idle, fresh, running, has_some}
+use Rattle.iq_replay.specs.Nodes.{node_position}
+use Rattle.iq_replay.specs.Refusals.{wanted}
+use Rattle.iq_replay.specs.Changes.{statement_of}
+use Rattle.iq_script_order.specs.Fixed.{IsCertain}
+use Rattle.iq_plain_runs.proofs.Next.{refused_next, begin_next, lock_next, done_next, commit_next, end_next, rollback_next, save_next, back_next, release_next, sync_next}
+use Rattle.iq_plain_runs.proofs.Changed.{change_begin, change_done, change_savepoint, change_back, change_release}
+use Rattle.iq_plain_runs.proofs.state.PlainState.granted.Goals as goal
+
+pub returns-in-Savepoint : goal.returns-in-Savepoint
+returns-in-Savepoint c =
+    let same : c.args.statement.now ≡ statements.Savepoint c.again.result = search rules in
+    save_next _ _ _ c.args.session.now c.args.statement.now c.again.result c.requires.at same c.requires.granted
+
+pub returns-in-BackTo : goal.returns-in-BackTo
+returns-in-BackTo c =
+    let same : c.args.statement.now ≡ statements.BackTo c.again.result = search rules in
+    back_next _ _ _ c.args.session.now c.args.statement.now c.again.result c.requires.at same c.requires.granted
+
+pub returns-in-Release : goal.returns-in-Release
+returns-in-Release c =
+    let same : c.args.statement.now ≡ statements.Release c.again.result = search rules in
+    release_next _ _ _ c.args.session.now c.args.statement.now c.again.result c.requires.at same c.requires.granted
+
+pub returns-in-Sync : goal.returns-in-Sync
+returns-in-Sync c =
+    let same : c.args.statement.now ≡ statements.Sync = search rules in
+    let latest : c.self.inside.latest ≡ c.args.self.now.latest = search rules in
+    rw latest (sync_next _ _ _ c.args.session.now c.args.statement.now c.requires.at same c.requires.granted)
