@@ -2,7 +2,7 @@
 use Rattle.std.specs.Prelude.{◌≡◌, ◌≤◌, ◌||◌, refl, ℕ, zero, suc, Bool, true, false, nat_le, nat_eq, List, [], ◌∷◌, ◌++◌, Option, Some, None, if◌then◌else◌}
 use Rattle.std.specs.List.{AllByRecursion}
 use Rattle.std.proofs.Common.{ap, sym, ◌∙◌, arith}
-use Rattle.std.proofs.lemmas.Bool.{leb-true}
+use Rattle.std.proofs.lemmas.Bool.{le-leb}
 use Rattle.iq_history.specs.declared.entries.Entry.{Entry}
 use Rattle.iq_history.specs.declared.entries.Entry.TheVariants as entries
 use Rattle.iq_replay.specs.State.{State}
@@ -41,7 +41,7 @@ pub course_came : (first state : State) (es : List Entry) (low l : ℕ) (e : Ent
 course_came first state es low l e h next above = let line : line_of e ≤ l = omega (arith, next.line) in record {
   legal = IsLegal-push first es e h.legal (possible_at first state es e h.state_is next.possible);
   state_is = ap (λ (s : State). change s e) h.state_is ∙ sym (replay-push first es e);
-  ordered = IsInOrder-push 1 es e h.ordered (or_true (closes e) _ (leb-true (omega (arith, next.line, h.low_is, above))));
+  ordered = IsInOrder-push 1 es e h.ordered (or_true (closes e) _ (le-leb (low_behind 1 es) (line_of e) (omega (arith, next.line, h.low_is, above))));
   low_is = rw (low_push 1 es e) (low_within (closes e) (low_behind 1 es) (line_of e) l (omega (arith, h.low_is, above)) line);
   undisturbed = all_push IsUndisturbed es e h.undisturbed next.undisturbed;
 }

@@ -57,7 +57,7 @@ impl<'a> PlainState<'a> {
     fn done_here(&mut self, alloc: Global, s: u32, l: u32) -> Result<(), NoRun>
         ensures { OnOk result (self.new ≡ change self.old (entries.Done s l)) }
     {
-        let Some(session) = self.sessions.get(s as usize) else {
+        let Some(session) = self.session_at(s) else {
             return Err(NoRun::NotPlain);
         };
         let Some(statement) = session.statement() else {

@@ -39,7 +39,7 @@ impl<'a> Model for PlainCourse<'a> {
 impl<'a> PlainCourse<'a> {
     /// A run without entries.
     pub(crate) fn begun(alloc: Global, state: PlainState<'a>) -> PlainCourse<'a>
-        ensures { result.first ≡ state }
+        ensures { result.first ≡ state.entry }
     {
         PlainCourse {
             first: Snapshot::of(&state),
@@ -59,7 +59,7 @@ impl<'a> PlainCourse<'a> {
     /// An entry of a line comes.
     pub(crate) fn put(self, alloc: Global, entry: Entry, l: u32) -> Result<PlainCourse<'a>, NoRun>
         requires { IsNextOf self.state l entry }
-        ensures { IfOk result (λ course. course.first ≡ self.first) }
+        ensures { IfOk result (λ course. course.first ≡ self.entry.first) }
     {
         let PlainCourse {
             first,
@@ -83,7 +83,7 @@ impl<'a> PlainCourse<'a> {
     /// A session is rolled back at the script's end.
     pub(crate) fn put_close(self, alloc: Global, s: u32) -> Result<PlainCourse<'a>, NoRun>
         requires { first_running 0 self.state.sessions ≡ Some s }
-        ensures { IfOk result (λ course. course.first ≡ self.first) }
+        ensures { IfOk result (λ course. course.first ≡ self.entry.first) }
     {
         let PlainCourse {
             first,
@@ -104,7 +104,7 @@ impl<'a> PlainCourse<'a> {
 
     /// A line is run.
     pub(crate) fn line(self, alloc: Global, line: &Line) -> Result<PlainCourse<'a>, NoRun>
-        ensures { IfOk result (λ course. course.first ≡ self.first) }
+        ensures { IfOk result (λ course. course.first ≡ self.entry.first) }
     {
         match line.session {
             None => Err(NoRun::NotPlain),
@@ -114,7 +114,7 @@ impl<'a> PlainCourse<'a> {
 
     /// A session's line is run: its transaction begins, it locks, takes effect and ends, where these are wanted.
     fn session_line(self, alloc: Global, s: u32, l: u32) -> Result<PlainCourse<'a>, NoRun>
-        ensures { IfOk result (λ course. course.first ≡ self.first) }
+        ensures { IfOk result (λ course. course.first ≡ self.entry.first) }
     {
         let mut course = self;
         for _ in 0..4_u32 {
@@ -131,7 +131,7 @@ impl<'a> PlainCourse<'a> {
 
     /// The transactions that still run at the script's end are rolled back, in order of their sessions.
     pub(crate) fn close(self, alloc: Global, sessions: usize) -> Result<PlainCourse<'a>, NoRun>
-        ensures { IfOk result (λ course. course.first ≡ self.first) }
+        ensures { IfOk result (λ course. course.first ≡ self.entry.first) }
     {
         let mut course = self;
         for _ in 0..sessions {
@@ -148,7 +148,7 @@ impl<'a> PlainCourse<'a> {
 
     /// The entries of a run that is whole.
     pub(crate) fn finish(self) -> Result<Listed<Entry>, NoRun>
-        ensures { IfOk result (λ entries. IsUndisturbedRun self.first entries) }
+        ensures { IfOk result (λ entries. IsUndisturbedRun self.entry.first entries) }
     {
         let PlainCourse {
             first: _,

@@ -11,7 +11,7 @@ use crate::state::PlainState;
 impl<'a> PlainState<'a> {
     /// Whether a line is under way in a session.
     pub(crate) fn is_under_way(&self, s: u32, l: u32) -> bool {
-        match self.sessions.get(s as usize) {
+        match self.session_at(s) {
             None => false,
             Some(session) => session.is_at(l),
         }
@@ -44,8 +44,10 @@ impl<'a> PlainState<'a> {
 fn all_ended(sessions: &[PlainSession]) -> bool
     ensures { OnTrue result (AllEnded sessions.now) }
 {
-    match sessions {
-        [] => true,
-        [session, rest @ ..] => session.has_ended() && all_ended(rest),
+    for session in sessions {
+        if !session.has_ended() {
+            return false;
+        }
     }
+    true
 }

@@ -30,7 +30,7 @@ impl<'a> PlainState<'a> {
         if self.closing {
             return Ok(None);
         }
-        let Some(session) = self.sessions.get(s as usize) else {
+        let Some(session) = self.session_at(s) else {
             return Ok(None);
         };
         let Some(statement) = session.statement_at(l) else {

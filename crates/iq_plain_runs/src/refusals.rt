@@ -72,6 +72,13 @@ impl<'a> PlainState<'a> {
         self.nodes.get(n as usize)
     }
 
+    /// The session at a place.
+    pub(crate) fn session_at(&self, s: u32) -> Option<&PlainSession<'a>>
+        ensures { option_copied result ≡ slice_get self.now.sessions s }
+    {
+        self.sessions.get(s as usize)
+    }
+
     /// The first refusal that only a running transaction can meet.
     fn run_refusal(
         &self,

@@ -17,13 +17,13 @@ returns-in-Savepoint c =
 
 pub returns-in-BackTo : goal.returns-in-BackTo
 returns-in-BackTo c =
-    let same : c.args.statement.now ≡ statements.BackTo c.again.result = search rules in
-    back_next _ _ _ c.args.session.now c.args.statement.now c.again.result c.requires.at same c.requires.granted
+    let same : c.args.statement.now ≡ statements.BackTo c.again-in-BackTo.result = search rules in
+    back_next _ _ _ c.args.session.now c.args.statement.now c.again-in-BackTo.result c.requires.at same c.requires.granted
 
 pub returns-in-Release : goal.returns-in-Release
 returns-in-Release c =
-    let same : c.args.statement.now ≡ statements.Release c.again.result = search rules in
-    release_next _ _ _ c.args.session.now c.args.statement.now c.again.result c.requires.at same c.requires.granted
+    let same : c.args.statement.now ≡ statements.Release c.again-in-Release.result = search rules in
+    release_next _ _ _ c.args.session.now c.args.statement.now c.again-in-Release.result c.requires.at same c.requires.granted
 
 pub returns-in-Sync : goal.returns-in-Sync
 returns-in-Sync c =

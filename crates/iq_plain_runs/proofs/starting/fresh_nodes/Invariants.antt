@@ -1,0 +1,6 @@
+use Rattle.std.proofs.Common.{◌≡◌, ◌++◌, drop, take, map, filter}
+use Rattle.iq_replay.specs.Start.{node_start, is_of, is_step, sessions_from}
+use Rattle.iq_plain_runs.proofs.starting.fresh_nodes.Given as goal
+
+abbrev pub invariant-loop-spec : goal.invariant-loop-spec
+invariant-loop-spec l = l.nodes.items ≡ map node_start (take l.spec-index l.specs)

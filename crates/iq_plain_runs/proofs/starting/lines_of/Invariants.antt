@@ -1,0 +1,6 @@
+use Rattle.std.proofs.Common.{◌≡◌, ◌++◌, drop, take, map, filter}
+use Rattle.iq_replay.specs.Start.{node_start, is_of, is_step, sessions_from}
+use Rattle.iq_plain_runs.proofs.starting.lines_of.Given as goal
+
+abbrev pub invariant-loop-line : goal.invariant-loop-line
+invariant-loop-line l = map (λ line. line.now) l.found.items ≡ filter (is_of l.place) (take l.line-index l.lines)

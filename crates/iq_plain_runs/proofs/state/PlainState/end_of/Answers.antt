@@ -1,0 +1,20 @@
+use Rattle.std.proofs.Common.{rules, arith, ◌≡◌, ◌≤◌, ◌<◌, ◌+◌, ℕ, Bool, true, false, refl, Option, Some, None, List, [], ◌∙◌, sym, ap, nat_eq}
+use Rattle.std.specs.List.{slice_get}
+use Rattle.iq_ast.specs.declared.statements.Statement.TheVariants as statements
+use Rattle.iq_replay.specs.State.{idle, fresh, running, has_some}
+use Rattle.iq_replay.specs.Asked.{IsUnlocked}
+use Rattle.iq_replay.specs.Refusals.{wanted}
+use Rattle.iq_plain_runs.proofs.Next.{refused_next, begin_next, lock_next, done_next, commit_next, end_next, rollback_next, save_next, back_next, release_next, sync_next}
+use Rattle.iq_plain_runs.proofs.state.PlainState.end_of.Goals as goal
+
+pub returns-then-not-holds_some : goal.returns-then-not-holds_some
+returns-then-not-holds_some c =
+    let none : has_some c.args.run.now.now.held ≡ false = search rules in
+    end_next _ _ _ c.args.session.now c.args.statement.now c.args.run.now c.requires.at c.requires.runs c.requires.ending none
+
+pub returns : goal.returns
+returns c =
+    let some : has_some c.args.run.now.now.held ≡ true = search rules in
+    let halted : c.args.self.now.halted ≡ None = search rules in
+    let number : c.in_ok-c.c ≡ c.args.self.now.latest + 1 = search rules in
+    rw number (commit_next _ _ _ c.args.session.now c.args.statement.now c.args.run.now c.requires.at c.requires.runs c.requires.ending some halted)
