@@ -12,7 +12,7 @@ use Rattle.iq_replay.specs.Histories.{replay, IsLegal, IsInOrder, IsWhole, close
 use Rattle.iq_replay.specs.Laws.{low_behind}
 use Rattle.iq_replay.proofs.Histories.{replay-push, IsLegal-push, IsInOrder-push}
 use Rattle.iq_script_order.specs.Fixed.{IsUndisturbed, IsUndisturbedRun}
-use Rattle.iq_plain_runs.specs.Courses.{IsNextOf, IsCourse, IsOver}
+use Rattle.iq_plain_runs.specs.Courses.{IsNextOf, IsCourse, IsOver, Course, IsRun}
 
 all_push : {X : Type 0} (P : X → Type 0) (xs : List X) (x : X) → AllByRecursion P xs → P x → AllByRecursion P (xs ++ x ∷ [])
 all_push P [] x h p = (p, tt)
@@ -64,3 +64,6 @@ pub course_whole : (first state : State) (es : List Entry) (low : ℕ) → IsCou
 course_whole first state es low h over =
     let at = over_at first state es h.state_is over in
     record { whole = record { legal = h.legal; sessions = at.sessions; steps = at.steps }; ordered = h.ordered; undisturbed = h.undisturbed }
+
+pub course_run : (course : Course) (low : ℕ) → IsCourse course.first course.state course.entries low → IsOver course.state → IsRun course
+course_run course low h over = record { run = course_whole course.first course.state course.entries low h over; state_is = h.state_is }

@@ -9,7 +9,7 @@ use Rattle.iq_replay.specs.Asked.{FirstIs}
 use Rattle.iq_replay.specs.Entries.{IsPossible}
 use Rattle.iq_replay.specs.Histories.{replay, IsLegal, IsInOrder, AllEnded, line_of}
 use Rattle.iq_replay.specs.Laws.{low_behind}
-use Rattle.iq_script_order.specs.Fixed.{IsUndisturbed}
+use Rattle.iq_script_order.specs.Fixed.{IsUndisturbed, IsUndisturbedRun}
 
 -- LINES
 
@@ -50,3 +50,8 @@ pub record IsCourse (first state : State) (es : List Entry) (low : ℕ) : Type 0
 pub record IsOver (s : State) : Type 0 where
   pub sessions : AllEnded s.sessions
   pub steps : s.steps ≡ []
+
+-- a whole run, and the state that it leaves
+pub record IsRun (course : Course) : Type 0 where
+  pub run : IsUndisturbedRun course.first course.entries
+  pub state_is : course.state ≡ replay course.first course.entries

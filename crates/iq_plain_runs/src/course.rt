@@ -1,14 +1,16 @@
 //! A run so far: its entries, and the state that they leave.
 ghost use Rattle.std.specs.Prelude.{◌≡◌, Some, IfOk};
+ghost use Rattle.std.specs.Bool.{OnTrue};
+ghost use Rattle.std.specs.Option.{option_copied};
 ghost use Rattle.iq_replay.specs.Lines.{first_running};
-ghost use Rattle.iq_script_order.specs.Fixed.{IsUndisturbedRun};
-ghost use Rattle.iq_plain_runs.specs.Courses.{IsNextOf};
+ghost use Rattle.iq_replay.specs.Histories.{replay, reply_in, replies_of};
+ghost use Rattle.iq_plain_runs.specs.Courses.{IsNextOf, IsRun};
 
 use crate::no_run::NoRun;
 use crate::state::PlainState;
 use iq_base::Listed;
 use iq_history::Entry;
-use iq_model::Line;
+use iq_model::{Line, Reply};
 use std::alloc::Global;
 use std::marker::Model;
 use std::snapshot::Snapshot;
@@ -146,19 +148,25 @@ impl<'a> PlainCourse<'a> {
         Ok(course)
     }
 
-    /// The entries of a run that is whole.
-    pub(crate) fn finish(self) -> Result<Listed<Entry>, NoRun>
-        ensures { IfOk result (λ entries. IsUndisturbedRun self.entry.first entries) }
+    /// The entries in the order in which they came.
+    pub(crate) fn entries(&self) -> &[Entry]
+        ensures { result.now ≡ self.entry.now.entries }
     {
-        let PlainCourse {
-            first: _,
-            state,
-            entries,
-            low: _,
-        } = self;
-        if !state.is_over() {
-            return Err(NoRun::NotPlain);
-        }
-        Ok(entries)
+        self.entries.as_slice()
+    }
+
+    /// The reply to a line, if it was answered.
+    pub(crate) fn reply(&self, line: &Line) -> Option<&Reply>
+        ensures { option_copied result ≡ reply_in line.now.number (replies_of (replay self.entry.now.first self.entry.now.entries) line.now.session) }
+    {
+        self.state.reply(line)
+    }
+
+    /// Whether it is whole: no line and no transaction is left.
+    #[tactic(auto, using(crate::proofs::Comes::course_run))]
+    pub(crate) fn is_over(&self) -> bool
+        ensures { OnTrue result (IsRun self.entry.now) }
+    {
+        self.state.is_over()
     }
 }

@@ -1,12 +1,14 @@
 //! The end of a script.
-ghost use Rattle.std.specs.Prelude.{◌≡◌, [], drop};
+ghost use Rattle.std.specs.Prelude.{◌≡◌};
 ghost use Rattle.std.specs.Bool.{OnTrue};
-ghost use Rattle.iq_replay.specs.Lines.{first_running, runs};
-ghost use Rattle.iq_replay.specs.Histories.{AllEnded, HasEnded};
+ghost use Rattle.std.specs.Option.{option_copied};
+ghost use Rattle.iq_replay.specs.Lines.{first_running};
+ghost use Rattle.iq_replay.specs.Histories.{AllEnded, reply_in, replies_of};
 ghost use Rattle.iq_plain_runs.specs.Courses.{IsOver};
 
 use crate::sessions::PlainSession;
 use crate::state::PlainState;
+use iq_model::{Line, Reply};
 
 impl<'a> PlainState<'a> {
     /// Whether a line is under way in a session.
@@ -38,6 +40,26 @@ impl<'a> PlainState<'a> {
         }
         all_ended(self.sessions.as_slice())
     }
+
+    /// The reply to a line, if it was answered.
+    pub(crate) fn reply(&self, line: &Line) -> Option<&Reply>
+        ensures { option_copied result ≡ reply_in line.now.number (replies_of self.now line.now.session) }
+    {
+        match line.session {
+            None => reply_in(line.number, self.replies.as_slice()),
+            Some(s) => match self.session_at(s) {
+                None => None,
+                Some(session) => reply_in(line.number, session.replies()),
+            },
+        }
+    }
+}
+
+/// The first reply with a line's number.
+fn reply_in(l: u32, replies: &[Reply]) -> Option<&Reply>
+    ensures { option_copied result ≡ reply_in l replies.now }
+{
+    replies.iter().find(|reply| reply.line == l)
 }
 
 /// Whether all sessions have ended.

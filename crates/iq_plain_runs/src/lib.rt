@@ -24,4 +24,4 @@ mod state;
 mod transactions;
 
 pub use no_run::NoRun;
-pub use runs::plain_run;
+pub use runs::{PlainRun, plain_run};
