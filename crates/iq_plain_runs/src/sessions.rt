@@ -430,7 +430,7 @@ fn said_of(
     ensures { IfOk result (λ said. said ≡ statement_said statement.now tables.now) }
 {
     match statement {
-        Statement::Write(write) => Ok(Some(write_said(alloc, write, tables)?)),
+        Statement::Write(write) => Ok(Some(write_said(write, tables))),
         Statement::Select(select) => Ok(Some(Said::Answer(answer(alloc, select, tables)?))),
         Statement::Begin
         | Statement::Commit
@@ -443,18 +443,18 @@ fn said_of(
 }
 
 /// What a write is answered, before it has a number.
-fn write_said(alloc: Global, write: &Write, tables: &[PlainTable]) -> Result<Said, NoMemory>
+fn write_said(write: &Write, tables: &[PlainTable]) -> Said
     requires { HasFewWriteParts write.now }
-    ensures { IfOk result (λ said. said ≡ write_said write.now tables.now) }
+    ensures { result ≡ write_said write.now tables.now }
 {
     let commit = None;
-    let rows = count(alloc, write, tables)?;
+    let rows = count(write, tables);
     match write {
-        Write::CreateTable { .. } | Write::CreateIndex { .. } => Ok(Said::Created { commit }),
-        Write::DropTable { .. } | Write::DropIndex { .. } => Ok(Said::Dropped { commit }),
-        Write::Insert { .. } | Write::Load { .. } => Ok(Said::Inserted { rows, commit }),
-        Write::Delete { .. } => Ok(Said::Deleted { rows, commit }),
-        Write::Update { .. } => Ok(Said::Updated { rows, commit }),
+        Write::CreateTable { .. } | Write::CreateIndex { .. } => Said::Created { commit },
+        Write::DropTable { .. } | Write::DropIndex { .. } => Said::Dropped { commit },
+        Write::Insert { .. } | Write::Load { .. } => Said::Inserted { rows, commit },
+        Write::Delete { .. } => Said::Deleted { rows, commit },
+        Write::Update { .. } => Said::Updated { rows, commit },
     }
 }
 
