@@ -72,7 +72,7 @@ pub fn drop_table() -> Result<Statement, Fail> {
 }
 
 /// INSERT INTO t VALUES (a)
-pub fn insert(alloc: Global, a: i32) -> Result<Statement, Fail> {
+pub fn insert(alloc: Global, a: i64) -> Result<Statement, Fail> {
     let mut row = Listed::new(alloc);
     row.push(Value::Int(a))?;
     let mut rows = Listed::new(alloc);
