@@ -79,7 +79,13 @@ impl<'a> PlainState<'a> {
 
     /// A line is refused.
     #[tactic(auto, using(crate::proofs::Places::changed_at_past))]
-    pub(crate) fn refuse(&mut self, alloc: Global, s: u32, l: u32, cause: Refusal) -> Result<(), NoMemory>
+    pub(crate) fn refuse(
+        &mut self,
+        alloc: Global,
+        s: u32,
+        l: u32,
+        cause: Refusal,
+    ) -> Result<(), NoMemory>
         ensures { OnOk result (self.new ≡ with_session s (refused l cause) self.old) }
     {
         let place = s as usize;
@@ -127,7 +133,13 @@ impl<'a> PlainState<'a> {
 
     /// A savepoint is kept.
     #[tactic(auto, using(crate::proofs::Places::changed_at_past))]
-    pub(crate) fn save(&mut self, alloc: Global, s: u32, l: u32, name: &Name) -> Result<(), NoMemory>
+    pub(crate) fn save(
+        &mut self,
+        alloc: Global,
+        s: u32,
+        l: u32,
+        name: &Name,
+    ) -> Result<(), NoMemory>
         ensures { OnOk result (self.new ≡ with_session s (λ session. ends_line l (saids.Saved name.now) (works (saves_as name.now) session)) self.old) }
     {
         let place = s as usize;
@@ -139,7 +151,13 @@ impl<'a> PlainState<'a> {
 
     /// A session sees the tables of a savepoint.
     #[tactic(auto, using(crate::proofs::Places::changed_at_past))]
-    pub(crate) fn go_back(&mut self, alloc: Global, s: u32, l: u32, name: &Name) -> Result<(), NoMemory>
+    pub(crate) fn go_back(
+        &mut self,
+        alloc: Global,
+        s: u32,
+        l: u32,
+        name: &Name,
+    ) -> Result<(), NoMemory>
         ensures { OnOk result (self.new ≡ with_session s (λ session. ends_line l (saids.BackTo name.now) (works (back_to name.now) session)) self.old) }
     {
         let place = s as usize;

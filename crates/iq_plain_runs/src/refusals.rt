@@ -331,9 +331,7 @@ fn is_ddl(write: &Write) -> bool
         | Write::DropTable { .. }
         | Write::CreateIndex { .. }
         | Write::DropIndex { .. } => true,
-        Write::Insert { .. }
-        | Write::Load { .. }
-        | Write::Delete { .. }
-        | Write::Update { .. } => false,
+        Write::Insert { .. } | Write::Load { .. } | Write::Delete { .. } | Write::Update { .. } =>
+            false,
     }
 }

@@ -190,13 +190,7 @@ impl<'a> PlainSession<'a> {
     {
         match &self.run {
             None => None,
-            Some(run) => {
-                if run.is_own() {
-                    None
-                } else {
-                    Some(run)
-                }
-            }
+            Some(run) => { if run.is_own() { None } else { Some(run) } }
         }
     }
 
@@ -310,12 +304,7 @@ impl<'a> PlainSession<'a> {
     }
 
     /// The line is refused.
-    pub(crate) fn refuse(
-        &mut self,
-        alloc: Global,
-        l: u32,
-        cause: Refusal,
-    ) -> Result<(), NoMemory>
+    pub(crate) fn refuse(&mut self, alloc: Global, l: u32, cause: Refusal) -> Result<(), NoMemory>
         ensures { OnOk result (self.new ≡ refused l cause self.old) }
     {
         if let Refusal::Lost { .. } = &cause {

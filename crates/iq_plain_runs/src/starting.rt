@@ -69,11 +69,7 @@ fn fresh_sessions<'a>(
 }
 
 /// The lines of the session at a place.
-fn lines_of<'a>(
-    alloc: Global,
-    place: usize,
-    lines: &'a [Line],
-) -> Result<Vec<&'a Line>, NoMemory>
+fn lines_of<'a>(alloc: Global, place: usize, lines: &'a [Line]) -> Result<Vec<&'a Line>, NoMemory>
     ensures { IfOk result (λ found. map (λ line. line.now) found.items ≡ filter (is_of place) lines.now) }
 {
     let mut found = Vec::new(alloc);

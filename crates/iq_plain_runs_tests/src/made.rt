@@ -1,6 +1,8 @@
 //! Scripts of a coordinator and a reader, built by hand; what a reply says.
 use iq_ast::{Item, Select, Statement, Write};
-use iq_base::{Column, Kind, Listed, Name, NodeKind, NodeSpec, Refusal, Schema, SessionSpec, Value};
+use iq_base::{
+    Column, Kind, Listed, Name, NodeKind, NodeSpec, Refusal, Schema, SessionSpec, Value,
+};
 use iq_model::{Answer, AnswerRows, Deed, Line, Out, Said, Script};
 use iq_plain_runs::{PlainRun, plain_run};
 use std::alloc::Global;
@@ -120,11 +122,7 @@ pub fn run<'a>(alloc: Global, script: &'a Script) -> Result<PlainRun<'a>, Fail> 
 }
 
 /// Compares what the lines of a script are answered with what was written by hand, by what both show.
-pub fn says<R: Abort + AllocGlobal>(
-    rt: &R,
-    script: &Script,
-    want: &[Said],
-) -> Result<(), Fail> {
+pub fn says<R: Abort + AllocGlobal>(rt: &R, script: &Script, want: &[Said]) -> Result<(), Fail> {
     let run = run(rt.alloc(), script)?;
     assert_eq!(rt; script.lines.len(), want.len());
     for (line, said) in script.lines.as_slice().iter().zip(want) {

@@ -1,5 +1,7 @@
 //! Lines of one session: alone, in transactions, and with savepoints.
-use crate::made::{all, create, drop_table, insert, line, name, no_lines, refused, rows, run, says};
+use crate::made::{
+    all, create, drop_table, insert, line, name, no_lines, refused, rows, run, says,
+};
 use iq_ast::Statement;
 use iq_base::Refusal;
 use iq_model::Said;
