@@ -1,5 +1,5 @@
 -- What an entry of a line changes, as the state's methods say it.
-use Rattle.std.specs.Prelude.{◌≡◌, refl, ℕ, zero, suc, Bool, List, [], ◌∷◌, ◌||◌, Option, Some, None, nat_eq}
+use Rattle.std.specs.Prelude.{◌≡◌, refl, ℕ, zero, suc, List, [], ◌∷◌, ◌||◌, Option, Some, nat_eq}
 use Rattle.std.specs.List.{slice_get}
 use Rattle.std.proofs.Common.{ap}
 use Rattle.iq_base.specs.Shorts.{Name}

@@ -1,5 +1,5 @@
 -- A course keeps what holds of it as entries come.
-use Rattle.std.specs.Prelude.{◌≡◌, ◌≤◌, ◌||◌, refl, ℕ, zero, suc, Bool, true, false, nat_le, nat_eq, List, [], ◌∷◌, ◌++◌, Option, Some, None, if◌then◌else◌}
+use Rattle.std.specs.Prelude.{◌≡◌, ◌≤◌, ◌||◌, refl, ℕ, Bool, true, false, List, [], ◌∷◌, ◌++◌, Some, if◌then◌else◌}
 use Rattle.std.specs.List.{AllByRecursion}
 use Rattle.std.proofs.Common.{ap, sym, ◌∙◌, arith}
 use Rattle.std.proofs.lemmas.Bool.{le-leb}
@@ -8,7 +8,7 @@ use Rattle.iq_history.specs.declared.entries.Entry.TheVariants as entries
 use Rattle.iq_replay.specs.State.{State}
 use Rattle.iq_replay.specs.Lines.{first_running}
 use Rattle.iq_replay.specs.Entries.{IsPossible, change}
-use Rattle.iq_replay.specs.Histories.{replay, IsLegal, IsInOrder, IsWhole, closes, line_of, low_after}
+use Rattle.iq_replay.specs.Histories.{replay, IsLegal, closes, line_of, low_after}
 use Rattle.iq_replay.specs.Laws.{low_behind}
 use Rattle.iq_replay.proofs.Histories.{replay-push, IsLegal-push, IsInOrder-push}
 use Rattle.iq_script_order.specs.Fixed.{IsUndisturbed, IsUndisturbedRun}

@@ -5,7 +5,7 @@ use Rattle.iq_base.specs.declared.refusals.Refusal.{Refusal}
 use Rattle.iq_ast.specs.declared.statements.Statement.{Statement}
 use Rattle.iq_statements.specs.Checks.{Check, first_refusal}
 use Rattle.iq_statements.specs.Statements.{statement_checks}
-use Rattle.iq_replay.specs.State.{State, Session, Standing, idle, lost, running, Run}
+use Rattle.iq_replay.specs.State.{State, Session, Standing, idle, lost, running}
 use Rattle.iq_replay.specs.Refusals.{run_checks, line_checks}
 use Rattle.iq_plain_runs.specs.Plain.{run_of, run_refusal, session_refusal}
 

@@ -1,5 +1,5 @@
 -- The names of a statement that aren't held.
-use Rattle.std.specs.Prelude.{◌≡◌, refl, ℕ, Bool, true, false, not, ◌&&◌, List, [], ◌∷◌, Option, Some, None}
+use Rattle.std.specs.Prelude.{◌≡◌, refl, Bool, true, false, not, ◌&&◌, List, [], ◌∷◌, Option, Some, None}
 use Rattle.iq_base.specs.Shorts.{Name}
 use Rattle.iq_base.specs.Locks.{catalog_name, table_locks, locks_of}
 use Rattle.iq_replay.specs.State.{has_name, not_held}

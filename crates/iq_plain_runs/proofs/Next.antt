@@ -1,23 +1,22 @@
 -- Entries of a line that may come next.
-use Rattle.std.specs.Prelude.{◌≡◌, refl, ℕ, zero, suc, ◌+◌, Bool, true, false, not, List, [], ◌∷◌, Option, Some, None, nat_eq, nat_lt, filter, IsSomeAnd, if◌then◌else◌}
+use Rattle.std.specs.Prelude.{◌≡◌, refl, ℕ, zero, suc, ◌+◌, Bool, true, false, not, List, [], ◌∷◌, Option, Some, None, nat_eq, nat_lt, filter, IsSomeAnd}
 use Rattle.std.specs.List.{slice_get}
 use Rattle.std.specs.Option.{option_or}
-use Rattle.std.proofs.Common.{ap, sym, inl, ◌∙◌}
+use Rattle.std.proofs.Common.{inl}
 use Rattle.iq_base.specs.Shorts.{Name}
 use Rattle.iq_base.specs.declared.refusals.Refusal.{Refusal}
 use Rattle.iq_ast.specs.declared.statements.Statement.{Statement}
 use Rattle.iq_ast.specs.declared.statements.Statement.TheVariants as statements
 use Rattle.iq_history.specs.declared.entries.Entry.TheVariants as entries
 use Rattle.iq_model.specs.declared.scripts.Line.{Line}
-use Rattle.iq_model.specs.declared.scripts.Deed.{Deed}
 use Rattle.iq_model.specs.declared.scripts.Deed.TheVariants as deeds
 use Rattle.iq_statements.specs.Checks.{Check, first_refusal}
 use Rattle.iq_statements.specs.Statements.{IsOnTables, Begins, HasMeaning}
-use Rattle.iq_replay.specs.State.{State, Session, Stage, fresh, Standing, idle, lost, running, Run, Node, has_some}
+use Rattle.iq_replay.specs.State.{State, Session, fresh, Standing, idle, running, Run, has_some}
 use Rattle.iq_replay.specs.Nodes.{node_position}
-use Rattle.iq_replay.specs.Refusals.{wanted, line_checks, checks_below, checks_but}
+use Rattle.iq_replay.specs.Refusals.{wanted, line_checks}
 use Rattle.iq_replay.specs.Asked.{FirstIs, StatementIs, OfLine, IsRunning, IsOpen, IsUnlocked}
-use Rattle.iq_replay.specs.Lines.{CanBegin, CanLock, CanTake, IsEnding, CanEnd, CanCommit, CanRun}
+use Rattle.iq_replay.specs.Lines.{IsEnding, CanEnd}
 use Rattle.iq_replay.specs.Entries.{IsPossible}
 use Rattle.iq_script_order.specs.Fixed.{IsCertain}
 use Rattle.iq_plain_runs.specs.Courses.{IsLineOf, IsNextOf}

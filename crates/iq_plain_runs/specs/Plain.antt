@@ -9,7 +9,7 @@ use Rattle.std.specs.Option.{option_or}
 use Rattle.iq_statements.specs.Checks.{first_refusal, first_found}
 use Rattle.iq_statements.specs.Statements.{statement_checks, room_checks}
 use Rattle.iq_replay.specs.State.{State, Session, fresh, Standing, idle, lost, running, Run, has_name}
-use Rattle.iq_replay.specs.Refusals.{line_checks, lost_refusal, at_node, excluded_refusal, before_line, transaction_refusal, reader_refusal, locked_refusal, later_refusal, wanted}
+use Rattle.iq_replay.specs.Refusals.{lost_refusal, at_node, excluded_refusal, before_line, transaction_refusal, reader_refusal, locked_refusal, later_refusal, wanted}
 
 -- a session's standing: its transaction, or none, which was lost or not
 abbrev pub standing_of : Bool → Option Run → Standing

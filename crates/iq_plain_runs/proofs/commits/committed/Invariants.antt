@@ -1,5 +1,5 @@
-use Rattle.std.proofs.Common.{◌≡◌, ◌++◌, take, drop, map, fold}
-use Rattle.iq_replay.specs.Commits.{with_seen, table_names, written_at}
+use Rattle.std.proofs.Common.{◌≡◌, drop, fold}
+use Rattle.iq_replay.specs.Commits.{with_seen, table_names}
 use Rattle.iq_plain_runs.proofs.commits.committed.Given as goal
 
 abbrev pub invariant-loop-name : goal.invariant-loop-name

@@ -1,5 +1,5 @@
-use Rattle.std.proofs.Common.{◌≡◌, ◌++◌, drop, take, map, filter}
-use Rattle.iq_replay.specs.Start.{node_start, is_of, is_step, sessions_from}
+use Rattle.std.proofs.Common.{◌≡◌, take, map}
+use Rattle.iq_replay.specs.Start.{node_start}
 use Rattle.iq_plain_runs.proofs.starting.fresh_nodes.Given as goal
 
 abbrev pub invariant-loop-spec : goal.invariant-loop-spec

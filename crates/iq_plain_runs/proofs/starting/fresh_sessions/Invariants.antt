@@ -1,5 +1,5 @@
-use Rattle.std.proofs.Common.{◌≡◌, ◌++◌, drop, take, map, filter}
-use Rattle.iq_replay.specs.Start.{node_start, is_of, is_step, sessions_from}
+use Rattle.std.proofs.Common.{◌≡◌, ◌++◌, drop}
+use Rattle.iq_replay.specs.Start.{sessions_from}
 use Rattle.iq_plain_runs.proofs.starting.fresh_sessions.Given as goal
 
 abbrev pub invariant-loop-place : goal.invariant-loop-place

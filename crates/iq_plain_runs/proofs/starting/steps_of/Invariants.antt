@@ -1,5 +1,5 @@
-use Rattle.std.proofs.Common.{◌≡◌, ◌++◌, drop, take, map, filter}
-use Rattle.iq_replay.specs.Start.{node_start, is_of, is_step, sessions_from}
+use Rattle.std.proofs.Common.{◌≡◌, take, map, filter}
+use Rattle.iq_replay.specs.Start.{is_step}
 use Rattle.iq_plain_runs.proofs.starting.steps_of.Given as goal
 
 abbrev pub invariant-loop-line : goal.invariant-loop-line

@@ -1,8 +1,6 @@
-use Rattle.std.proofs.Common.{rules, arith, ◌≡◌, ◌≤◌, ◌∷◌, [], Some}
-use Rattle.iq_replay.specs.State.{State}
+use Rattle.std.proofs.Common.{rules, ◌≡◌, Some}
 use Rattle.iq_replay.specs.Lines.{first_running}
-use Rattle.iq_plain_runs.specs.Courses.{IsNextOf}
-use Rattle.iq_plain_runs.proofs.Comes.{course_begun, course_came, course_closed, course_whole}
+use Rattle.iq_plain_runs.proofs.Comes.{course_closed}
 use Rattle.iq_plain_runs.proofs.course.PlainCourse.put_close.Goals as goal
 
 pub invariant_of-result : goal.invariant_of-result

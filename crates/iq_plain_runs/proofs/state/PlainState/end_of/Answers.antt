@@ -1,10 +1,6 @@
-use Rattle.std.proofs.Common.{rules, arith, ◌≡◌, ◌≤◌, ◌<◌, ◌+◌, ℕ, Bool, true, false, refl, Option, Some, None, List, [], ◌∙◌, sym, ap, nat_eq}
-use Rattle.std.specs.List.{slice_get}
-use Rattle.iq_ast.specs.declared.statements.Statement.TheVariants as statements
-use Rattle.iq_replay.specs.State.{idle, fresh, running, has_some}
-use Rattle.iq_replay.specs.Asked.{IsUnlocked}
-use Rattle.iq_replay.specs.Refusals.{wanted}
-use Rattle.iq_plain_runs.proofs.Next.{refused_next, begin_next, lock_next, done_next, commit_next, end_next, rollback_next, save_next, back_next, release_next, sync_next}
+use Rattle.std.proofs.Common.{rules, ◌≡◌, ◌+◌, true, false, None}
+use Rattle.iq_replay.specs.State.{has_some}
+use Rattle.iq_plain_runs.proofs.Next.{commit_next, end_next}
 use Rattle.iq_plain_runs.proofs.state.PlainState.end_of.Goals as goal
 
 pub returns-then-not-holds_some : goal.returns-then-not-holds_some

@@ -1,8 +1,5 @@
-use Rattle.std.proofs.Common.{rules, arith, ◌≡◌, ◌<◌, length, refl, vec_len}
-use Rattle.iq_model.specs.declared.replies.Said.TheVariants as saids
-use Rattle.iq_replay.specs.State.{Session}
-use Rattle.iq_replay.specs.Commits.{database_of}
-use Rattle.iq_replay.specs.Changes.{statement_of, begins, locks_more, takes_effect, refused, commits, ends, rolls_back, ends_line, works, saves_as, back_to, release_to}
+use Rattle.std.proofs.Common.{rules, ◌<◌, length, refl}
+use Rattle.iq_replay.specs.Changes.{locks_more}
 use Rattle.iq_plain_runs.proofs.Places.{set_is_changed}
 use Rattle.iq_plain_runs.proofs.state.PlainState.lock.Goals as goal
 

@@ -1,4 +1,4 @@
-use Rattle.std.proofs.Common.{rules, arith, ◌≡◌, ◌<◌, length, refl, vec_len}
+use Rattle.std.proofs.Common.{rules, ◌<◌, length, refl}
 use Rattle.iq_replay.specs.State.{moved_to}
 use Rattle.iq_plain_runs.proofs.Places.{set_is_changed}
 use Rattle.iq_plain_runs.proofs.state.PlainState.move_node.Goals as goal

@@ -1,10 +1,8 @@
-use Rattle.std.proofs.Common.{rules, arith, ◌≡◌, ◌≤◌, ◌<◌, ◌+◌, ℕ, Bool, true, false, refl, Option, Some, None, List, [], ◌∙◌, sym, ap, nat_eq}
-use Rattle.std.specs.List.{slice_get}
-use Rattle.iq_ast.specs.declared.statements.Statement.TheVariants as statements
-use Rattle.iq_replay.specs.State.{idle, fresh, running, has_some}
+use Rattle.std.proofs.Common.{rules, ◌≡◌, true, []}
+use Rattle.iq_replay.specs.State.{has_some}
 use Rattle.iq_replay.specs.Asked.{IsUnlocked}
 use Rattle.iq_replay.specs.Refusals.{wanted}
-use Rattle.iq_plain_runs.proofs.Next.{refused_next, begin_next, lock_next, done_next, commit_next, end_next, rollback_next, save_next, back_next, release_next, sync_next}
+use Rattle.iq_plain_runs.proofs.Next.{lock_next, done_next}
 use Rattle.iq_plain_runs.proofs.state.PlainState.worked.Goals as goal
 
 pub returns-then-is_empty : goal.returns-then-is_empty
