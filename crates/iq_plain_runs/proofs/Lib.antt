@@ -4,3 +4,4 @@ pub mod Found
 pub mod Held
 pub mod Next
 pub mod Places
+pub mod StepChanged

@@ -1,3 +1,4 @@
 pub mod Plain
+pub mod Versions
 pub mod Stages
 pub mod Courses

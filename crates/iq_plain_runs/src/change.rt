@@ -37,7 +37,6 @@ impl<'a> PlainState<'a> {
             Entry::Release { s, l, name } => self.release(*s, *l, name)?,
             Entry::Sync { s, l, c } => self.sync(*s, *l, *c)?,
             Entry::Refused { s: None, .. }
-            | Entry::Halt { .. }
             | Entry::Apply { .. }
             | Entry::Send { .. }
             | Entry::Lose { .. }
@@ -47,7 +46,56 @@ impl<'a> PlainState<'a> {
             | Entry::Exclude { .. }
             | Entry::Include { .. }
             | Entry::Space { .. }
-            | Entry::Versions { .. } => return Err(NoRun::NotPlain),
+            | Entry::Versions { .. } => self.step(alloc, entry)?,
+            Entry::Halt { .. } => return Err(NoRun::NotPlain),
+        }
+        Ok(())
+    }
+
+    /// The state as an entry of a step leaves it.
+    #[tactic(auto, using(crate::proofs::StepChanged::change_apply, crate::proofs::StepChanged::change_send, crate::proofs::StepChanged::change_lose, crate::proofs::StepChanged::change_take, crate::proofs::StepChanged::change_own, crate::proofs::StepChanged::change_restart, crate::proofs::StepChanged::change_exclude, crate::proofs::StepChanged::change_include, crate::proofs::StepChanged::change_space, crate::proofs::StepChanged::change_versions, crate::proofs::StepChanged::change_refused))]
+    fn step(&mut self, alloc: Global, entry: &Entry) -> Result<(), NoRun>
+        ensures { OnOk result (self.new ≡ change self.old entry.now) }
+    {
+        match entry {
+            Entry::Refused { s: None, l, cause } => self.refuse_step(*l, cause.again())?,
+            Entry::Apply { n, l, c } => self.apply(*n, *l, *c)?,
+            Entry::Send {
+                n,
+                l,
+                number,
+                floor,
+            } => self.send(*n, *l, *number, *floor)?,
+            Entry::Lose { l, number } => self.lose(alloc, *l, *number)?,
+            Entry::Take {
+                l,
+                number,
+                horizon,
+                freed,
+            } => self.take(alloc, *l, *number, *horizon, *freed)?,
+            Entry::Own {
+                n: _,
+                l,
+                horizon,
+                freed,
+            } => self.own(*l, *horizon, *freed)?,
+            Entry::Restart { n, l, incarnation } => self.restart(*n, *l, *incarnation)?,
+            Entry::Exclude { n, l, incarnation } => self.exclude(*n, *l, *incarnation)?,
+            Entry::Include { n, l, c } => self.include(*n, *l, *c)?,
+            Entry::Space { l, census } => self.count(*l, *census)?,
+            Entry::Versions { l } => self.tell(alloc, *l)?,
+            Entry::Refused { s: Some(_), .. }
+            | Entry::Begin { .. }
+            | Entry::Lock { .. }
+            | Entry::Done { .. }
+            | Entry::Commit { .. }
+            | Entry::End { .. }
+            | Entry::Rollback { .. }
+            | Entry::Halt { .. }
+            | Entry::Savepoint { .. }
+            | Entry::Back { .. }
+            | Entry::Release { .. }
+            | Entry::Sync { .. } => return Err(NoRun::NotPlain),
         }
         Ok(())
     }

@@ -51,6 +51,20 @@ impl PlainNode {
         }
     }
 
+    /// The same node once more.
+    pub(crate) fn again(&self) -> PlainNode
+        ensures { result ≡ self.now }
+    {
+        PlainNode {
+            name: self.name.again(),
+            kind: self.kind,
+            position: self.position,
+            incarnation: self.incarnation,
+            taken: self.taken,
+            excluded: self.excluded,
+        }
+    }
+
     /// Its name.
     pub(crate) fn name(&self) -> &Name
         ensures { result.now ≡ self.now.name }

@@ -409,6 +409,15 @@ impl<'a> PlainSession<'a> {
     }
 }
 
+/// The running transactions of a node are lost.
+pub(crate) fn lose_all(sessions: &mut [PlainSession], node: u32)
+    ensures { sessions.new ≡ map (loses node) sessions.old }
+{
+    for session in sessions.iter_mut() {
+        session.lose(node);
+    }
+}
+
 /// What a statement on tables is answered.
 fn said_of(
     alloc: Global,
