@@ -4,6 +4,7 @@ use Rattle.std.specs.List.{AllByRecursion, slice_get}
 use Rattle.iq_ast.specs.declared.statements.Statement.{Statement}
 use Rattle.iq_history.specs.declared.entries.Entry.{Entry}
 use Rattle.iq_model.specs.declared.scripts.Deed.TheVariants as deeds
+use Rattle.iq_model.specs.declared.scripts.Step.{Step}
 use Rattle.iq_replay.specs.State.{State, Session}
 use Rattle.iq_replay.specs.Asked.{FirstIs}
 use Rattle.iq_replay.specs.Entries.{IsPossible}
@@ -18,6 +19,11 @@ pub record IsLineOf (s : State) (place l : ℕ) (session : Session) (statement :
   pub open_still : s.closing ≡ false
   pub found : slice_get s.sessions place ≡ Some session
   pub under_way : FirstIs session.left l (λ deed. deed ≡ deeds.Statement statement)
+
+-- the first step that is left: its number is l, and it is this
+pub record IsStepOf (s : State) (l : ℕ) (step : Step) : Type 0 where
+  pub open_still : s.closing ≡ false
+  pub under_way : FirstIs s.steps l (λ deed. deed ≡ deeds.Step step)
 
 -- an entry of a line that is possible, and that nothing disturbed
 pub record IsNextOf (s : State) (l : ℕ) (e : Entry) : Type 0 where

@@ -8,6 +8,7 @@ ghost use Rattle.iq_plain_runs.specs.Courses.{IsNextOf, IsRun};
 
 use crate::no_run::NoRun;
 use crate::state::PlainState;
+use crate::step_following::next_step;
 use iq_base::Listed;
 use iq_history::Entry;
 use iq_model::{Line, Reply};
@@ -109,9 +110,19 @@ impl<'a> PlainCourse<'a> {
         ensures { IfOk result (λ course. course.first ≡ self.entry.first) }
     {
         match line.session {
-            None => Err(NoRun::NotPlain),
+            None => self.step_line(alloc, line.number),
             Some(s) => self.session_line(alloc, s, line.number),
         }
+    }
+
+    /// A step is run.
+    fn step_line(self, alloc: Global, l: u32) -> Result<PlainCourse<'a>, NoRun>
+        ensures { IfOk result (λ course. course.first ≡ self.entry.first) }
+    {
+        let Some(entry) = next_step(self.state(), alloc, l)? else {
+            return Err(NoRun::NotPlain);
+        };
+        self.put(alloc, entry, l)
     }
 
     /// A session's line is run: its transaction begins, it locks, takes effect and ends, where these are wanted.

@@ -297,7 +297,7 @@ fn is_empty(names: &Locks) -> bool
 }
 
 /// Whether neither want of space or memory, nor a fault, a bad page or a halt gives a refusal.
-fn is_certain(cause: &Refusal) -> bool
+pub(crate) fn is_certain(cause: &Refusal) -> bool
     ensures { OnTrue result (IsCertain cause.now) }
 {
     match cause {

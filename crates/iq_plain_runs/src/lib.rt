@@ -24,6 +24,8 @@ mod sessions;
 mod starting;
 mod state;
 mod step_entries;
+mod step_following;
+mod step_refusals;
 mod transactions;
 
 pub use no_run::NoRun;

@@ -1,5 +1,6 @@
 //! Nodes, reports, and commits of names.
 ghost use Rattle.std.specs.Prelude.{◌≡◌};
+ghost use Rattle.std.specs.Bool.{OnTrue};
 ghost use Rattle.iq_conditions.specs.Servers.{same_name};
 ghost use Rattle.iq_replay.specs.State.{moved_to};
 ghost use Rattle.iq_replay.specs.Nodes.{is_coordinator, is_reader, node_position};
@@ -70,6 +71,14 @@ impl PlainNode {
         ensures { result.now ≡ self.now.name }
     {
         &self.name
+    }
+
+    /// Whether this is its name.
+    pub(crate) fn is_named(&self, name: &Name) -> bool
+        ensures value { result ≡ same_name self.now.name name.now }
+        ensures yes { OnTrue result (self.now.name ≡ name.now) }
+    {
+        self.name == *name
     }
 
     /// Whether it is the coordinator.

@@ -1,6 +1,5 @@
 //! The first refusal of a line.
 ghost use Rattle.std.specs.Prelude.{◌≡◌, IfOk};
-ghost use Rattle.std.specs.List.{slice_get};
 ghost use Rattle.std.specs.Option.{option_copied, option_or};
 ghost use Rattle.iq_plain_tables.specs.Plain.{HasFewParts};
 ghost use Rattle.iq_statements.specs.Checks.{first_refusal, first_found};
@@ -63,20 +62,6 @@ impl<'a> PlainState<'a> {
             return Ok(Some(cause));
         }
         self.run_refusal(alloc, s, session.run(), statement)
-    }
-
-    /// The node at a place.
-    pub(crate) fn node_at(&self, n: u32) -> Option<&PlainNode>
-        ensures { option_copied result ≡ slice_get self.now.nodes n }
-    {
-        self.nodes.get(n as usize)
-    }
-
-    /// The session at a place.
-    pub(crate) fn session_at(&self, s: u32) -> Option<&PlainSession<'a>>
-        ensures { option_copied result ≡ slice_get self.now.sessions s }
-    {
-        self.sessions.get(s as usize)
     }
 
     /// The first refusal that only a running transaction can meet.
@@ -226,7 +211,7 @@ fn lost_refusal(node: Option<&PlainNode>, session: &PlainSession) -> Option<Refu
 }
 
 /// A node that is excluded.
-fn excluded_refusal(node: Option<&PlainNode>) -> Option<Refusal>
+pub(crate) fn excluded_refusal(node: Option<&PlainNode>) -> Option<Refusal>
     ensures { result ≡ at_node excluded_refusal (option_copied node.entry) }
 {
     let node = node?;

@@ -35,7 +35,6 @@ pub(crate) fn without_report(
 }
 
 /// The nodes, where a report is taken.
-#[tactic(auto, using(crate::proofs::Places::changed_at_past))]
 pub(crate) fn nodes_taking(
     alloc: Global,
     nodes: &[PlainNode],
@@ -44,11 +43,19 @@ pub(crate) fn nodes_taking(
     ensures { IfOk result (λ taking. taking.items ≡ changed_at report.now.node (taken_up report.now.floor) nodes.now) }
 {
     let mut taking = copied_nodes(alloc, nodes)?;
-    let place = report.node() as usize;
-    if place < taking.len() {
-        taking[place].take_up(report.floor());
-    }
+    take_up_at(&mut taking, report.node(), report.floor());
     Ok(taking)
+}
+
+/// The taken floor of the node at a place is at least this.
+#[tactic(auto, using(crate::proofs::Places::changed_at_past))]
+fn take_up_at(nodes: &mut [PlainNode], n: u32, floor: u64)
+    ensures { nodes.new ≡ changed_at n (taken_up floor) nodes.old }
+{
+    let place = n as usize;
+    if place < nodes.len() {
+        nodes[place].take_up(floor);
+    }
 }
 
 /// The same nodes once more.

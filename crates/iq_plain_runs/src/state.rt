@@ -1,12 +1,17 @@
 //! The state of a run: what the entries of its history leave.
-ghost use Rattle.std.specs.Prelude.{◌≡◌};
+ghost use Rattle.std.specs.Prelude.{◌≡◌, IfSome, IsSomeAnd};
+ghost use Rattle.std.specs.List.{slice_get};
+ghost use Rattle.std.specs.Option.{option_copied};
+ghost use Rattle.iq_model.specs.declared.scripts.Deed.TheVariants as deeds;
+ghost use Rattle.iq_replay.specs.Asked.{FirstIs};
+ghost use Rattle.iq_replay.specs.Nodes.{node_named};
 ghost use Rattle.iq_replay.specs.State.{with_node, moved_to};
 ghost use Rattle.iq_replay.specs.Commits.{database_of};
 
 use crate::nodes::{PlainNode, PlainReport, PlainWritten};
 use crate::sessions::PlainSession;
-use iq_base::Listed;
-use iq_model::{Line, Reply};
+use iq_base::{Listed, Name};
+use iq_model::{Deed, Line, Reply, Step};
 use iq_plain_tables::{PlainTable, PlainTables};
 use std::marker::Model;
 
@@ -61,6 +66,99 @@ impl<'a> Model for PlainState<'a> {
 }
 
 impl<'a> PlainState<'a> {
+    /// The count of blocks.
+    pub(crate) fn blocks(&self) -> u32
+        ensures { result ≡ self.now.blocks }
+    {
+        self.blocks
+    }
+
+    /// The latest commit.
+    pub(crate) fn latest(&self) -> u64
+        ensures { result ≡ self.now.latest }
+    {
+        self.latest
+    }
+
+    /// Whether the script's end has begun.
+    pub(crate) fn is_closing(&self) -> bool
+        ensures { result ≡ self.now.closing }
+    {
+        self.closing
+    }
+
+    /// The nodes.
+    pub(crate) fn nodes(&self) -> &[PlainNode]
+        ensures { result.now ≡ self.now.nodes }
+    {
+        self.nodes.as_slice()
+    }
+
+    /// The node at a place.
+    pub(crate) fn node_at(&self, n: u32) -> Option<&PlainNode>
+        ensures { option_copied result ≡ slice_get self.now.nodes n }
+    {
+        self.nodes.get(n as usize)
+    }
+
+    /// The first node of a name.
+    pub(crate) fn node_named(&self, name: &Name) -> Option<&PlainNode>
+        ensures { option_copied result ≡ node_named self.now name.now }
+    {
+        self.nodes.iter().find(|node| node.is_named(name))
+    }
+
+    /// The place of the first node of a name.
+    pub(crate) fn place_named(&self, name: &Name) -> Option<u32>
+        ensures { IfSome result (λ n. IsSomeAnd (slice_get self.now.nodes n) (λ node. node.name ≡ name.now)) }
+    {
+        for (place, node) in self.nodes.iter().enumerate() {
+            if node.is_named(name) {
+                return u32::try_from(place).ok();
+            }
+        }
+        None
+    }
+
+    /// The session at a place.
+    pub(crate) fn session_at(&self, s: u32) -> Option<&PlainSession<'a>>
+        ensures { option_copied result ≡ slice_get self.now.sessions s }
+    {
+        self.sessions.get(s as usize)
+    }
+
+    /// The reports that are in the bag.
+    pub(crate) fn bag(&self) -> &[PlainReport]
+        ensures { result.now ≡ self.now.bag }
+    {
+        self.bag.as_slice()
+    }
+
+    /// The next report's number.
+    pub(crate) fn next_number(&self) -> u32
+        ensures { result ≡ self.now.next }
+    {
+        self.next
+    }
+
+    /// The first step that is left, where it has this number.
+    pub(crate) fn step_at(&self, l: u32) -> Option<&'a Step>
+        ensures { IfSome result (λ step. FirstIs self.now.steps l (λ deed. deed ≡ deeds.Step step.now)) }
+    {
+        match self.steps.first() {
+            None => None,
+            Some(line) => {
+                if line.number != l {
+                    return None;
+                }
+                match &line.deed {
+                    Deed::Statement(_) => None,
+                    Deed::Step(step) => Some(step),
+                }
+            }
+        }
+    }
+
     /// The tables of a commit.
     pub(crate) fn database(&self, c: u64) -> &[PlainTable]
         ensures { result.now ≡ database_of self.now c }
