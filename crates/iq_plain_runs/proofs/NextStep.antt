@@ -1,7 +1,7 @@
 -- Entries of a step that may come next.
 use Rattle.std.specs.Prelude.{◌≡◌, ◌<◌, refl, ℕ, zero, suc, ◌+◌, Bool, true, false, List, [], ◌∷◌, Option, Some, None, nat_lt, IsSomeAnd, if◌then◌else◌}
 use Rattle.std.specs.List.{slice_get}
-use Rattle.std.proofs.Common.{inl, ap, sym}
+use Rattle.std.proofs.Common.{inl, ap, sym, arith}
 use Rattle.iq_base.specs.Shorts.{Name}
 use Rattle.iq_base.specs.declared.refusals.Refusal.{Refusal}
 use Rattle.iq_history.specs.declared.entries.Entry.TheVariants as entries
@@ -90,7 +90,7 @@ take_next s l number report at found =
     record {
       possible = (
         of_turn s l _ (of_step s l (steps.Take number) (λ step. step ≡ steps.Take number) at refl),
-        rw (found) (ap (horizon s.latest) (sym (bounds_over s (changed_at report.node (taken_up report.floor) s.nodes) 0 (changed_at report.node (taken_up report.floor) s.nodes))))
+        rw (found) (ap (horizon s.latest) (sym (bounds_over s (changed_at report.node (taken_up report.floor) s.nodes) 0 (changed_at report.node (taken_up report.floor) s.nodes)))),
       );
       undisturbed = tt;
       line = refl;
@@ -123,7 +123,7 @@ pub space_next : (s : State) (l free : ℕ) → IsStepOf s l steps.Space → fre
 unfolding IsPossible
 space_next s l free at all =
     record {
-      possible = (of_step s l steps.Space (λ step. step ≡ steps.Space) at refl, omega all, zero_unless (nat_lt s.base s.latest), zero_unless (is_writing s.sessions));
+      possible = (of_step s l steps.Space (λ step. step ≡ steps.Space) at refl, omega (arith, all), zero_unless (nat_lt s.base s.latest), zero_unless (is_writing s.sessions));
       undisturbed = tt;
       line = refl;
     }

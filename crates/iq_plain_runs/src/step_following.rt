@@ -14,7 +14,11 @@ use iq_model::Step;
 use std::alloc::Global;
 
 /// The entry of the first step that is left, if it has this number.
-pub(crate) fn next_step(state: &PlainState, alloc: Global, l: u32) -> Result<Option<Entry>, NoMemory>
+pub(crate) fn next_step(
+    state: &PlainState,
+    alloc: Global,
+    l: u32,
+) -> Result<Option<Entry>, NoMemory>
     ensures { IfOk result (IsFoundOf state.now l) }
 {
     if state.is_closing() {
@@ -131,12 +135,7 @@ fn lost(state: &PlainState, l: u32, number: u32) -> Option<Entry>
 }
 
 /// A report is taken.
-fn taken(
-    state: &PlainState,
-    alloc: Global,
-    l: u32,
-    number: u32,
-) -> Result<Option<Entry>, NoMemory>
+fn taken(state: &PlainState, alloc: Global, l: u32, number: u32) -> Result<Option<Entry>, NoMemory>
     requires { IsStepOf state.now l (steps.Take number) }
     ensures { IfOk result (IsFoundOf state.now l) }
 {
