@@ -4,6 +4,10 @@
 #[cfg(test)]
 mod made;
 #[cfg(test)]
+mod reports;
+#[cfg(test)]
 mod sessions;
+#[cfg(test)]
+mod steps;
 #[cfg(test)]
 mod transactions;

@@ -3,7 +3,7 @@ use iq_ast::{Item, Select, Statement, Write};
 use iq_base::{
     Column, Kind, Listed, Name, NodeKind, NodeSpec, Refusal, Schema, SessionSpec, Value,
 };
-use iq_model::{Answer, AnswerRows, Deed, Line, Out, Said, Script};
+use iq_model::{Answer, AnswerRows, Deed, Line, NodeVersion, Out, Said, Script, Step, Versions};
 use iq_plain_runs::{PlainRun, plain_run};
 use std::alloc::Global;
 use std::fmt::Debug;
@@ -16,6 +16,15 @@ pub fn name(text: &str) -> Result<Name, Fail> {
 
 /// The sessions 0 and 1 on the coordinator c, and 2 on the reader r. No line.
 pub fn no_lines(alloc: Global) -> Result<Script, Fail> {
+    no_lines_on(alloc, NodeKind::Reader)
+}
+
+/// The same, with a node r that is a writer.
+pub fn no_lines_on_a_writer(alloc: Global) -> Result<Script, Fail> {
+    no_lines_on(alloc, NodeKind::Writer)
+}
+
+fn no_lines_on(alloc: Global, kind: NodeKind) -> Result<Script, Fail> {
     let mut nodes = Listed::new(alloc);
     nodes.push(NodeSpec {
         name: name("c")?,
@@ -23,7 +32,7 @@ pub fn no_lines(alloc: Global) -> Result<Script, Fail> {
     })?;
     nodes.push(NodeSpec {
         name: name("r")?,
-        kind: NodeKind::Reader,
+        kind,
     })?;
     let mut sessions = Listed::new(alloc);
     sessions.push(session("a", 0)?)?;
@@ -54,6 +63,16 @@ pub fn line(script: &mut Script, number: u32, s: u32, statement: Statement) -> R
     Ok(())
 }
 
+/// A step more.
+pub fn step(script: &mut Script, number: u32, step: Step) -> Result<(), Fail> {
+    script.lines.push(Line {
+        number,
+        session: None,
+        deed: Deed::Step(step),
+    })?;
+    Ok(())
+}
+
 /// CREATE TABLE t (a INT)
 pub fn create(alloc: Global) -> Result<Statement, Fail> {
     let mut columns = Listed::new(alloc);
@@ -71,6 +90,14 @@ pub fn create(alloc: Global) -> Result<Statement, Fail> {
 /// DROP TABLE t
 pub fn drop_table() -> Result<Statement, Fail> {
     Ok(Statement::Write(Write::DropTable { name: name("t")? }))
+}
+
+/// DELETE FROM t
+pub fn delete_all() -> Result<Statement, Fail> {
+    Ok(Statement::Write(Write::Delete {
+        table: name("t")?,
+        cond: None,
+    }))
 }
 
 /// INSERT INTO t VALUES (a)
@@ -107,6 +134,24 @@ pub fn rows(alloc: Global, numbers: &[i128]) -> Result<Said, Fail> {
         rows.push(row)?;
     }
     Ok(Said::Answer(Answer::Rows(AnswerRows::of_values(rows))))
+}
+
+/// What VERSIONS tells.
+pub fn versions(
+    alloc: Global,
+    latest: u64,
+    horizon: u64,
+    told: &[NodeVersion],
+) -> Result<Said, Fail> {
+    let mut nodes = Listed::new(alloc);
+    for version in told {
+        nodes.push(*version)?;
+    }
+    Ok(Said::Versions(Versions {
+        latest,
+        horizon,
+        nodes,
+    }))
 }
 
 pub fn refused(cause: Refusal) -> Said {
