@@ -7,7 +7,8 @@ use Rattle.iq_statements.specs.Checks.{Check, first_refusal}
 use Rattle.iq_statements.specs.Statements.{statement_checks}
 use Rattle.iq_replay.specs.State.{State, Session, Standing, idle, lost, running}
 use Rattle.iq_replay.specs.Refusals.{run_checks, line_checks}
-use Rattle.iq_plain_runs.specs.Plain.{run_of, run_refusal, session_refusal}
+use Rattle.iq_plain_sessions.specs.Plain.{run_of}
+use Rattle.iq_plain_runs.specs.Firsts.{run_refusal, session_refusal}
 
 or_assoc : (a b c : Option Refusal) → option_or a (option_or b c) ≡ option_or (option_or a b) c
 or_assoc None b c = refl

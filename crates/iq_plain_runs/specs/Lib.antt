@@ -1,4 +1,2 @@
-pub mod Plain
-pub mod Versions
-pub mod Stages
+pub mod Firsts
 pub mod Courses

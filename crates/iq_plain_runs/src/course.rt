@@ -6,9 +6,10 @@ ghost use Rattle.iq_replay.specs.Lines.{first_running};
 ghost use Rattle.iq_replay.specs.Histories.{replay, reply_in, replies_of};
 ghost use Rattle.iq_plain_runs.specs.Courses.{IsNextOf, IsRun};
 
-use crate::no_run::NoRun;
-use crate::state::PlainState;
+use crate::ending::{first_running, is_over, is_under_way, reply};
+use crate::following::next;
 use crate::step_following::next_step;
+use iq_plain_state::{NoRun, PlainState};
 use iq_base::Listed;
 use iq_history::Entry;
 use iq_model::{Line, Reply};
@@ -131,10 +132,10 @@ impl<'a> PlainCourse<'a> {
     {
         let mut course = self;
         for _ in 0..4_u32 {
-            if !course.state().is_under_way(s, l) {
+            if !is_under_way(course.state(), s, l) {
                 break;
             }
-            let Some(entry) = course.state().next(alloc, s, l)? else {
+            let Some(entry) = next(course.state(), alloc, s, l)? else {
                 return Err(NoRun::NotPlain);
             };
             course = course.put(alloc, entry, l)?;
@@ -148,7 +149,7 @@ impl<'a> PlainCourse<'a> {
     {
         let mut course = self;
         for _ in 0..sessions {
-            let Some(place) = course.state().first_running() else {
+            let Some(place) = first_running(course.state()) else {
                 break;
             };
             let Ok(s) = u32::try_from(place) else {
@@ -170,7 +171,7 @@ impl<'a> PlainCourse<'a> {
     pub(crate) fn reply(&self, line: &Line) -> Option<&Reply>
         ensures { option_copied result ≡ reply_in line.now.number (replies_of (replay self.entry.now.first self.entry.now.entries) line.now.session) }
     {
-        self.state.reply(line)
+        reply(&self.state, line)
     }
 
     /// Whether it is whole: no line and no transaction is left.
@@ -178,6 +179,6 @@ impl<'a> PlainCourse<'a> {
     pub(crate) fn is_over(&self) -> bool
         ensures { OnTrue result (IsRun self.entry.now) }
     {
-        self.state.is_over()
+        is_over(&self.state)
     }
 }

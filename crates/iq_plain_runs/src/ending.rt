@@ -6,52 +6,50 @@ ghost use Rattle.iq_replay.specs.Lines.{first_running};
 ghost use Rattle.iq_replay.specs.Histories.{AllEnded, reply_in, replies_of};
 ghost use Rattle.iq_plain_runs.specs.Courses.{IsOver};
 
-use crate::sessions::PlainSession;
-use crate::state::PlainState;
+use iq_plain_sessions::{PlainSession};
+use iq_plain_state::{PlainState};
 use iq_model::{Line, Reply};
 
-impl<'a> PlainState<'a> {
-    /// Whether a line is under way in a session.
-    pub(crate) fn is_under_way(&self, s: u32, l: u32) -> bool {
-        match self.session_at(s) {
-            None => false,
-            Some(session) => session.is_at(l),
+/// Whether a line is under way in a session.
+pub(crate) fn is_under_way(state: &PlainState, s: u32, l: u32) -> bool {
+    match state.session_at(s) {
+        None => false,
+        Some(session) => session.is_at(l),
+    }
+}
+
+/// The first session whose transaction runs.
+pub(crate) fn first_running(state: &PlainState) -> Option<usize>
+    ensures { result ≡ first_running 0 state.now.sessions }
+{
+    for (place, session) in state.sessions().iter().enumerate() {
+        if session.runs() {
+            return Some(place);
         }
     }
+    None
+}
 
-    /// The first session whose transaction runs.
-    pub(crate) fn first_running(&self) -> Option<usize>
-        ensures { result ≡ first_running 0 self.now.sessions }
-    {
-        for (place, session) in self.sessions.iter().enumerate() {
-            if session.runs() {
-                return Some(place);
-            }
-        }
-        None
+/// Whether no line and no transaction is left.
+pub(crate) fn is_over(state: &PlainState) -> bool
+    ensures { OnTrue result (IsOver state.now) }
+{
+    if state.has_step() {
+        return false;
     }
+    all_ended(state.sessions())
+}
 
-    /// Whether no line and no transaction is left.
-    pub(crate) fn is_over(&self) -> bool
-        ensures { OnTrue result (IsOver self.now) }
-    {
-        if !self.steps.is_empty() {
-            return false;
-        }
-        all_ended(self.sessions.as_slice())
-    }
-
-    /// The reply to a line, if it was answered.
-    pub(crate) fn reply(&self, line: &Line) -> Option<&Reply>
-        ensures { option_copied result ≡ reply_in line.now.number (replies_of self.now line.now.session) }
-    {
-        match line.session {
-            None => reply_in(line.number, self.replies.as_slice()),
-            Some(s) => match self.session_at(s) {
-                None => None,
-                Some(session) => reply_in(line.number, session.replies()),
-            },
-        }
+/// The reply to a line, if it was answered.
+pub(crate) fn reply(state: &PlainState, line: &Line) -> Option<&Reply>
+    ensures { option_copied result ≡ reply_in line.now.number (replies_of state.now line.now.session) }
+{
+    match line.session {
+        None => reply_in(line.number, state.replies()),
+        Some(s) => match state.session_at(s) {
+            None => None,
+            Some(session) => reply_in(line.number, session.replies()),
+        },
     }
 }
 

@@ -12,279 +12,276 @@ ghost use Rattle.iq_replay.specs.Lines.{IsEnding};
 ghost use Rattle.iq_script_order.specs.Fixed.{IsCertain};
 ghost use Rattle.iq_plain_runs.specs.Courses.{IsLineOf, IsFoundOf};
 
-use crate::names::wanted;
-use crate::plain::is_plain;
-use crate::sessions::PlainSession;
-use crate::state::PlainState;
-use crate::transactions::PlainTransaction;
+use crate::refusals::refusal;
+use iq_plain_sessions::{PlainSession, PlainTransaction, wanted};
+use iq_plain_state::{PlainState, is_plain};
 use iq_ast::Statement;
 use iq_base::{Locks, NoMemory, Refusal};
 use iq_history::Entry;
 use std::alloc::Global;
 
-impl<'a> PlainState<'a> {
-    /// The next entry of a line, if it is the line under way of its session and the plain program runs its statement.
-    pub(crate) fn next(&self, alloc: Global, s: u32, l: u32) -> Result<Option<Entry>, NoMemory>
-        ensures { IfOk result (IsFoundOf self.now l) }
-    {
-        if self.closing {
-            return Ok(None);
-        }
-        let Some(session) = self.session_at(s) else {
-            return Ok(None);
-        };
-        let Some(statement) = session.statement_at(l) else {
-            return Ok(None);
-        };
-        if !is_plain(statement) {
-            return Ok(None);
-        }
-        self.next_of(alloc, s, l, session, statement)
+/// The next entry of a line, if it is the line under way of its session and the plain program runs its statement.
+pub(crate) fn next(state: &PlainState, alloc: Global, s: u32, l: u32) -> Result<Option<Entry>, NoMemory>
+    ensures { IfOk result (IsFoundOf state.now l) }
+{
+    if state.is_closing() {
+        return Ok(None);
     }
-
-    /// The next entry of the line under way.
-    fn next_of(
-        &self,
-        alloc: Global,
-        s: u32,
-        l: u32,
-        session: &PlainSession<'a>,
-        statement: &Statement,
-    ) -> Result<Option<Entry>, NoMemory>
-        requires at { IsLineOf self.now s l session.now statement.now }
-        requires meaning { HasMeaning statement.now }
-        requires few { HasFewParts statement.now }
-        ensures { IfOk result (IsFoundOf self.now l) }
-    {
-        if session.is_done() {
-            return Ok(self.own_end(s, l, session, statement));
-        }
-        match self.refusal(alloc, s, session, statement)? {
-            Some(cause) => Ok(self.refused(s, l, session, statement, cause)),
-            None => Ok(self.granted(s, l, session, statement)),
-        }
+    let Some(session) = state.session_at(s) else {
+        return Ok(None);
+    };
+    let Some(statement) = session.statement_at(l) else {
+        return Ok(None);
+    };
+    if !is_plain(statement) {
+        return Ok(None);
     }
+    next_of(state, alloc, s, l, session, statement)
+}
 
-    /// The refusal of a line.
-    fn refused(
-        &self,
-        s: u32,
-        l: u32,
-        session: &PlainSession<'a>,
-        statement: &Statement,
-        cause: Refusal,
-    ) -> Option<Entry>
-        requires at { IsLineOf self.now s l session.now statement.now }
-        requires open_still { IsOpen session.now.stage }
-        requires first { first_refusal (line_checks self.now s session.now statement.now) ≡ Some cause }
-        ensures { IsFoundOf self.now l result }
-    {
-        if is_certain(&cause) {
-            return Some(Entry::Refused {
-                s: Some(s),
-                l,
-                cause,
-            });
-        }
-        None
+/// The next entry of the line under way.
+fn next_of(
+    state: &PlainState,
+    alloc: Global,
+    s: u32,
+    l: u32,
+    session: &PlainSession,
+    statement: &Statement,
+) -> Result<Option<Entry>, NoMemory>
+    requires at { IsLineOf state.now s l session.now statement.now }
+    requires meaning { HasMeaning statement.now }
+    requires few { HasFewParts statement.now }
+    ensures { IfOk result (IsFoundOf state.now l) }
+{
+    if session.is_done() {
+        return Ok(own_end(state, s, l, session, statement));
     }
-
-    /// The next entry of a line that no test refuses.
-    fn granted(
-        &self,
-        s: u32,
-        l: u32,
-        session: &PlainSession<'a>,
-        statement: &Statement,
-    ) -> Option<Entry>
-        requires at { IsLineOf self.now s l session.now statement.now }
-        requires open_still { IsOpen session.now.stage }
-        requires meaning { HasMeaning statement.now }
-        requires granted { first_refusal (line_checks self.now s session.now statement.now) ≡ None }
-        ensures { IsFoundOf self.now l result }
-    {
-        match statement {
-            Statement::Write(_) | Statement::Select(_) => self.on_tables(s, l, session, statement),
-            Statement::Begin => self.begun(s, l, session, statement),
-            Statement::Commit => self.ended(s, l, session, statement),
-            Statement::Rollback => self.rolled(s, l, session, statement),
-            Statement::Savepoint(name) => Some(Entry::Savepoint {
-                s,
-                l,
-                name: name.again(),
-            }),
-            Statement::BackTo(name) => Some(Entry::Back {
-                s,
-                l,
-                name: name.again(),
-            }),
-            Statement::Release(name) => Some(Entry::Release {
-                s,
-                l,
-                name: name.again(),
-            }),
-            Statement::Sync => Some(Entry::Sync {
-                s,
-                l,
-                c: self.latest,
-            }),
-        }
+    match refusal(state, alloc, s, session, statement)? {
+        Some(cause) => Ok(refused(state, s, l, session, statement, cause)),
+        None => Ok(granted(state, s, l, session, statement)),
     }
+}
 
-    /// A rollback by a line.
-    fn rolled(
-        &self,
-        s: u32,
-        l: u32,
-        session: &PlainSession<'a>,
-        statement: &Statement,
-    ) -> Option<Entry>
-        requires at { IsLineOf self.now s l session.now statement.now }
-        requires same { statement.now ≡ statements.Rollback }
-        requires granted { first_refusal (line_checks self.now s session.now statement.now) ≡ None }
-        ensures { IsFoundOf self.now l result }
-    {
-        let _ = session;
-        let _ = statement;
-        if l == 0 {
-            return None;
-        }
-        Some(Entry::Rollback { s, l })
+/// The refusal of a line.
+fn refused(
+    state: &PlainState,
+    s: u32,
+    l: u32,
+    session: &PlainSession,
+    statement: &Statement,
+    cause: Refusal,
+) -> Option<Entry>
+    requires at { IsLineOf state.now s l session.now statement.now }
+    requires open_still { IsOpen session.now.stage }
+    requires first { first_refusal (line_checks state.now s session.now statement.now) ≡ Some cause }
+    ensures { IsFoundOf state.now l result }
+{
+    if is_certain(&cause) {
+        return Some(Entry::Refused {
+            s: Some(s),
+            l,
+            cause,
+        });
     }
+    None
+}
 
-    /// The next entry of a line on tables.
-    fn on_tables(
-        &self,
-        s: u32,
-        l: u32,
-        session: &PlainSession<'a>,
-        statement: &Statement,
-    ) -> Option<Entry>
-        requires at { IsLineOf self.now s l session.now statement.now }
-        requires open_still { IsOpen session.now.stage }
-        requires tables { IsOnTables statement.now }
-        requires meaning { HasMeaning statement.now }
-        requires granted { first_refusal (line_checks self.now s session.now statement.now) ≡ None }
-        ensures { IsFoundOf self.now l result }
-    {
-        match session.run() {
-            None => self.begun(s, l, session, statement),
-            Some(run) => self.worked(s, l, session, statement, run),
-        }
-    }
-
-    /// A transaction begins with a line.
-    fn begun(
-        &self,
-        s: u32,
-        l: u32,
-        session: &PlainSession<'a>,
-        statement: &Statement,
-    ) -> Option<Entry>
-        requires at { IsLineOf self.now s l session.now statement.now }
-        requires begins { Begins statement.now }
-        requires granted { first_refusal (line_checks self.now s session.now statement.now) ≡ None }
-        ensures { IsFoundOf self.now l result }
-    {
-        let _ = statement;
-        if !session.is_fresh() || !session.is_idle() {
-            return None;
-        }
-        let node = self.node_at(session.node())?;
-        Some(Entry::Begin {
+/// The next entry of a line that no test refuses.
+fn granted(
+    state: &PlainState,
+    s: u32,
+    l: u32,
+    session: &PlainSession,
+    statement: &Statement,
+) -> Option<Entry>
+    requires at { IsLineOf state.now s l session.now statement.now }
+    requires open_still { IsOpen session.now.stage }
+    requires meaning { HasMeaning statement.now }
+    requires granted { first_refusal (line_checks state.now s session.now statement.now) ≡ None }
+    ensures { IsFoundOf state.now l result }
+{
+    match statement {
+        Statement::Write(_) | Statement::Select(_) => on_tables(state, s, l, session, statement),
+        Statement::Begin => begun(state, s, l, session, statement),
+        Statement::Commit => ended(state, s, l, session, statement),
+        Statement::Rollback => rolled(state, s, l, session, statement),
+        Statement::Savepoint(name) => Some(Entry::Savepoint {
             s,
             l,
-            c: node.position(self.latest),
-        })
+            name: name.again(),
+        }),
+        Statement::BackTo(name) => Some(Entry::Back {
+            s,
+            l,
+            name: name.again(),
+        }),
+        Statement::Release(name) => Some(Entry::Release {
+            s,
+            l,
+            name: name.again(),
+        }),
+        Statement::Sync => Some(Entry::Sync {
+            s,
+            l,
+            c: state.latest(),
+        }),
     }
+}
 
-    /// A line on tables locks the names that it wants, or takes effect.
-    fn worked(
-        &self,
-        s: u32,
-        l: u32,
-        session: &PlainSession<'a>,
-        statement: &Statement,
-        run: &PlainTransaction,
-    ) -> Option<Entry>
-        requires at { IsLineOf self.now s l session.now statement.now }
-        requires runs { session.now.standing ≡ running run.now }
-        requires open_still { IsOpen session.now.stage }
-        requires tables { IsOnTables statement.now }
-        requires meaning { HasMeaning statement.now }
-        requires granted { first_refusal (line_checks self.now s session.now statement.now) ≡ None }
-        ensures { IsFoundOf self.now l result }
-    {
-        let names = wanted(statement, run);
-        if is_empty(&names) {
-            return Some(Entry::Done { s, l });
-        }
-        if session.is_unlocked() {
-            return Some(Entry::Lock { s, l, names });
-        }
-        None
+/// A rollback by a line.
+fn rolled(
+    state: &PlainState,
+    s: u32,
+    l: u32,
+    session: &PlainSession,
+    statement: &Statement,
+) -> Option<Entry>
+    requires at { IsLineOf state.now s l session.now statement.now }
+    requires same { statement.now ≡ statements.Rollback }
+    requires granted { first_refusal (line_checks state.now s session.now statement.now) ≡ None }
+    ensures { IsFoundOf state.now l result }
+{
+    let _ = session;
+    let _ = statement;
+    if l == 0 {
+        return None;
     }
+    Some(Entry::Rollback { s, l })
+}
 
-    /// COMMIT ends its transaction.
-    fn ended(
-        &self,
-        s: u32,
-        l: u32,
-        session: &PlainSession<'a>,
-        statement: &Statement,
-    ) -> Option<Entry>
-        requires at { IsLineOf self.now s l session.now statement.now }
-        requires same { statement.now ≡ statements.Commit }
-        ensures { IsFoundOf self.now l result }
-    {
-        let run = session.run()?;
-        if run.is_own() {
-            return None;
-        }
-        self.end_of(s, l, session, statement, run)
+/// The next entry of a line on tables.
+fn on_tables(
+    state: &PlainState,
+    s: u32,
+    l: u32,
+    session: &PlainSession,
+    statement: &Statement,
+) -> Option<Entry>
+    requires at { IsLineOf state.now s l session.now statement.now }
+    requires open_still { IsOpen session.now.stage }
+    requires tables { IsOnTables statement.now }
+    requires meaning { HasMeaning statement.now }
+    requires granted { first_refusal (line_checks state.now s session.now statement.now) ≡ None }
+    ensures { IsFoundOf state.now l result }
+{
+    match session.run() {
+        None => begun(state, s, l, session, statement),
+        Some(run) => worked(state, s, l, session, statement, run),
     }
+}
 
-    /// A transaction of a line's own ends once its statement took effect.
-    fn own_end(
-        &self,
-        s: u32,
-        l: u32,
-        session: &PlainSession<'a>,
-        statement: &Statement,
-    ) -> Option<Entry>
-        requires at { IsLineOf self.now s l session.now statement.now }
-        requires done { session.now.stage ≡ done }
-        ensures { IsFoundOf self.now l result }
-    {
-        let run = session.run()?;
-        if !run.is_own() {
-            return None;
-        }
-        self.end_of(s, l, session, statement, run)
+/// A transaction begins with a line.
+fn begun(
+    state: &PlainState,
+    s: u32,
+    l: u32,
+    session: &PlainSession,
+    statement: &Statement,
+) -> Option<Entry>
+    requires at { IsLineOf state.now s l session.now statement.now }
+    requires begins { Begins statement.now }
+    requires granted { first_refusal (line_checks state.now s session.now statement.now) ≡ None }
+    ensures { IsFoundOf state.now l result }
+{
+    let _ = statement;
+    if !session.is_fresh() || !session.is_idle() {
+        return None;
     }
+    let node = state.node_at(session.node())?;
+    Some(Entry::Begin {
+        s,
+        l,
+        c: node.position(state.latest()),
+    })
+}
 
-    /// A transaction ends, with a commit where it holds a name.
-    fn end_of(
-        &self,
-        s: u32,
-        l: u32,
-        session: &PlainSession<'a>,
-        statement: &Statement,
-        run: &PlainTransaction,
-    ) -> Option<Entry>
-        requires at { IsLineOf self.now s l session.now statement.now }
-        requires runs { session.now.standing ≡ running run.now }
-        requires ending { IsEnding run.now.own session.now.stage statement.now }
-        ensures { IsFoundOf self.now l result }
-    {
-        let _ = session;
-        let _ = statement;
-        if !run.holds_some() {
-            return Some(Entry::End { s, l });
-        }
-        let c = self.latest.checked_add(1)?;
-        Some(Entry::Commit { s, l, c })
+/// A line on tables locks the names that it wants, or takes effect.
+fn worked(
+    state: &PlainState,
+    s: u32,
+    l: u32,
+    session: &PlainSession,
+    statement: &Statement,
+    run: &PlainTransaction,
+) -> Option<Entry>
+    requires at { IsLineOf state.now s l session.now statement.now }
+    requires runs { session.now.standing ≡ running run.now }
+    requires open_still { IsOpen session.now.stage }
+    requires tables { IsOnTables statement.now }
+    requires meaning { HasMeaning statement.now }
+    requires granted { first_refusal (line_checks state.now s session.now statement.now) ≡ None }
+    ensures { IsFoundOf state.now l result }
+{
+    let names = wanted(statement, run);
+    if is_empty(&names) {
+        return Some(Entry::Done { s, l });
     }
+    if session.is_unlocked() {
+        return Some(Entry::Lock { s, l, names });
+    }
+    None
+}
+
+/// COMMIT ends its transaction.
+fn ended(
+    state: &PlainState,
+    s: u32,
+    l: u32,
+    session: &PlainSession,
+    statement: &Statement,
+) -> Option<Entry>
+    requires at { IsLineOf state.now s l session.now statement.now }
+    requires same { statement.now ≡ statements.Commit }
+    ensures { IsFoundOf state.now l result }
+{
+    let run = session.run()?;
+    if run.is_own() {
+        return None;
+    }
+    end_of(state, s, l, session, statement, run)
+}
+
+/// A transaction of a line's own ends once its statement took effect.
+fn own_end(
+    state: &PlainState,
+    s: u32,
+    l: u32,
+    session: &PlainSession,
+    statement: &Statement,
+) -> Option<Entry>
+    requires at { IsLineOf state.now s l session.now statement.now }
+    requires done { session.now.stage ≡ done }
+    ensures { IsFoundOf state.now l result }
+{
+    let run = session.run()?;
+    if !run.is_own() {
+        return None;
+    }
+    end_of(state, s, l, session, statement, run)
+}
+
+/// A transaction ends, with a commit where it holds a name.
+fn end_of(
+    state: &PlainState,
+    s: u32,
+    l: u32,
+    session: &PlainSession,
+    statement: &Statement,
+    run: &PlainTransaction,
+) -> Option<Entry>
+    requires at { IsLineOf state.now s l session.now statement.now }
+    requires runs { session.now.standing ≡ running run.now }
+    requires ending { IsEnding run.now.own session.now.stage statement.now }
+    ensures { IsFoundOf state.now l result }
+{
+    let _ = session;
+    let _ = statement;
+    state.never_halts();
+    if !run.holds_some() {
+        return Some(Entry::End { s, l });
+    }
+    let c = state.latest().checked_add(1)?;
+    Some(Entry::Commit { s, l, c })
 }
 
 /// Whether there is no name.

@@ -6,195 +6,190 @@ ghost use Rattle.iq_statements.specs.Checks.{first_refusal, first_found};
 ghost use Rattle.iq_statements.specs.Statements.{HasMeaning, is_ddl};
 ghost use Rattle.iq_replay.specs.Commits.{latest_of};
 ghost use Rattle.iq_replay.specs.Refusals.{lost_refusal, at_node, excluded_refusal, reader_refusal, before_line, no_save, full_saves, transaction_refusal, locked_refusal, later_refusal, holder_from, line_checks};
-ghost use Rattle.iq_plain_runs.specs.Plain.{session_refusal, run_refusal, behind_refusal};
+ghost use Rattle.iq_plain_runs.specs.Firsts.{session_refusal, run_refusal, behind_refusal};
 
-use crate::names::wanted;
-use crate::nodes::PlainNode;
-use crate::sessions::PlainSession;
-use crate::state::PlainState;
-use crate::transactions::{PlainTransaction, catalog};
+use iq_plain_sessions::{PlainNode, PlainSession, PlainTransaction, catalog, wanted};
+use iq_plain_state::{PlainState};
 use iq_ast::{Statement, Write};
 use iq_base::{Locks, Name, NoMemory, Refusal};
 use iq_plain_tables::{room_refusal, statement_refusal};
 use std::alloc::Global;
 
-impl<'a> PlainState<'a> {
-    /// The first refusal of a session's statement.
-    #[tactic(auto, using(crate::proofs::Found::line_first))]
-    pub(crate) fn refusal(
-        &self,
-        alloc: Global,
-        s: u32,
-        session: &PlainSession<'a>,
-        statement: &Statement,
-    ) -> Result<Option<Refusal>, NoMemory>
-        requires meaning { HasMeaning statement.now }
-        requires few { HasFewParts statement.now }
-        ensures { IfOk result (λ found. found ≡ first_refusal (line_checks self.now s session.now statement.now)) }
-    {
-        let _ = &self.closing;
-        self.session_refusal(alloc, s, session, statement)
-    }
+/// The first refusal of a session's statement.
+#[tactic(auto, using(crate::proofs::Found::line_first))]
+pub(crate) fn refusal(
+    state: &PlainState,
+    alloc: Global,
+    s: u32,
+    session: &PlainSession,
+    statement: &Statement,
+) -> Result<Option<Refusal>, NoMemory>
+    requires meaning { HasMeaning statement.now }
+    requires few { HasFewParts statement.now }
+    ensures { IfOk result (λ found. found ≡ first_refusal (line_checks state.now s session.now statement.now)) }
+{
+    state.never_halts();
+    session_refusal(state, alloc, s, session, statement)
+}
 
-    /// The same, as the tests follow each other.
-    fn session_refusal(
-        &self,
-        alloc: Global,
-        s: u32,
-        session: &PlainSession<'a>,
-        statement: &Statement,
-    ) -> Result<Option<Refusal>, NoMemory>
-        requires meaning { HasMeaning statement.now }
-        requires few { HasFewParts statement.now }
-        ensures { IfOk result (λ found. found ≡ session_refusal self.now s session.now statement.now) }
-    {
-        let node = self.node_at(session.node());
-        if let Some(cause) = lost_refusal(node, session) {
-            return Ok(Some(cause));
-        }
-        if let Some(cause) = excluded_refusal(node) {
-            return Ok(Some(cause));
-        }
-        if let Some(cause) = transaction_refusal(session.before_line(), statement) {
-            return Ok(Some(cause));
-        }
-        if let Some(cause) = reader_refusal(node, statement) {
-            return Ok(Some(cause));
-        }
-        self.run_refusal(alloc, s, session.run(), statement)
+/// The same, as the tests follow each other.
+fn session_refusal(
+    state: &PlainState,
+    alloc: Global,
+    s: u32,
+    session: &PlainSession,
+    statement: &Statement,
+) -> Result<Option<Refusal>, NoMemory>
+    requires meaning { HasMeaning statement.now }
+    requires few { HasFewParts statement.now }
+    ensures { IfOk result (λ found. found ≡ session_refusal state.now s session.now statement.now) }
+{
+    let node = state.node_at(session.node());
+    if let Some(cause) = lost_refusal(node, session) {
+        return Ok(Some(cause));
     }
-
-    /// The first refusal that only a running transaction can meet.
-    fn run_refusal(
-        &self,
-        alloc: Global,
-        s: u32,
-        run: Option<&PlainTransaction>,
-        statement: &Statement,
-    ) -> Result<Option<Refusal>, NoMemory>
-        requires meaning { HasMeaning statement.now }
-        requires few { HasFewParts statement.now }
-        ensures { IfOk result (λ found. found ≡ run_refusal self.now s statement.now (option_copied run.entry)) }
-    {
-        let Some(run) = run else {
-            return Ok(None);
-        };
-        match statement_refusal(alloc, statement, run.start().seen())? {
-            Some(cause) => Ok(Some(cause)),
-            None => self.behind_refusal(alloc, s, run, statement),
-        }
+    if let Some(cause) = excluded_refusal(node) {
+        return Ok(Some(cause));
     }
-
-    /// The first refusal behind the names and values of a statement.
-    fn behind_refusal(
-        &self,
-        alloc: Global,
-        s: u32,
-        run: &PlainTransaction,
-        statement: &Statement,
-    ) -> Result<Option<Refusal>, NoMemory>
-        requires meaning { HasMeaning statement.now }
-        requires few { HasFewParts statement.now }
-        ensures { IfOk result (λ found. found ≡ behind_refusal self.now s statement.now run.entry.now) }
-    {
-        let names = wanted(statement, run);
-        if let Some(cause) = self.locked_refusal(s, &names)? {
-            return Ok(Some(cause));
-        }
-        if let Some(cause) = self.later_refusal(run.snapshot(), &names) {
-            return Ok(Some(cause));
-        }
-        room_refusal(alloc, statement, run.start().seen())
+    if let Some(cause) = transaction_refusal(session.before_line(), statement) {
+        return Ok(Some(cause));
     }
+    if let Some(cause) = reader_refusal(node, statement) {
+        return Ok(Some(cause));
+    }
+    run_refusal(state, alloc, s, session.run(), statement)
+}
 
-    /// The refusal of the first of these names that another transaction holds.
-    fn locked_refusal(&self, s: u32, names: &Locks) -> Result<Option<Refusal>, NoMemory>
-        ensures { IfOk result (λ found. found ≡ first_found (locked_refusal self.now.sessions s) names.now) }
-    {
-        let (of_all, table) = names.parts();
-        if of_all {
-            if let Some(cause) = self.locked_name(s, &catalog())? {
-                return Ok(Some(cause));
-            }
-        }
-        match table {
-            None => Ok(None),
-            Some(name) => self.locked_name(s, name),
+/// The first refusal that only a running transaction can meet.
+fn run_refusal(
+    state: &PlainState,
+    alloc: Global,
+    s: u32,
+    run: Option<&PlainTransaction>,
+    statement: &Statement,
+) -> Result<Option<Refusal>, NoMemory>
+    requires meaning { HasMeaning statement.now }
+    requires few { HasFewParts statement.now }
+    ensures { IfOk result (λ found. found ≡ run_refusal state.now s statement.now (option_copied run.entry)) }
+{
+    let Some(run) = run else {
+        return Ok(None);
+    };
+    match statement_refusal(alloc, statement, run.start().seen())? {
+        Some(cause) => Ok(Some(cause)),
+        None => behind_refusal(state, alloc, s, run, statement),
+    }
+}
+
+/// The first refusal behind the names and values of a statement.
+fn behind_refusal(
+    state: &PlainState,
+    alloc: Global,
+    s: u32,
+    run: &PlainTransaction,
+    statement: &Statement,
+) -> Result<Option<Refusal>, NoMemory>
+    requires meaning { HasMeaning statement.now }
+    requires few { HasFewParts statement.now }
+    ensures { IfOk result (λ found. found ≡ behind_refusal state.now s statement.now run.entry.now) }
+{
+    let names = wanted(statement, run);
+    if let Some(cause) = locked_refusal(state, s, &names)? {
+        return Ok(Some(cause));
+    }
+    if let Some(cause) = later_refusal(state, run.snapshot(), &names) {
+        return Ok(Some(cause));
+    }
+    room_refusal(alloc, statement, run.start().seen())
+}
+
+/// The refusal of the first of these names that another transaction holds.
+fn locked_refusal(state: &PlainState, s: u32, names: &Locks) -> Result<Option<Refusal>, NoMemory>
+    ensures { IfOk result (λ found. found ≡ first_found (locked_refusal state.now.sessions s) names.now) }
+{
+    let (of_all, table) = names.parts();
+    if of_all {
+        if let Some(cause) = locked_name(state, s, &catalog())? {
+            return Ok(Some(cause));
         }
     }
+    match table {
+        None => Ok(None),
+        Some(name) => locked_name(state, s, name),
+    }
+}
 
-    /// The refusal of a name that another transaction holds.
-    fn locked_name(&self, s: u32, name: &Name) -> Result<Option<Refusal>, NoMemory>
-        ensures { IfOk result (λ found. found ≡ locked_refusal self.now.sessions s name.now) }
-    {
-        let Some(place) = self.holder(s, name) else {
-            return Ok(None);
-        };
-        let Ok(session) = u32::try_from(place) else {
-            return Err(NoMemory);
-        };
-        Ok(Some(Refusal::Locked {
+/// The refusal of a name that another transaction holds.
+fn locked_name(state: &PlainState, s: u32, name: &Name) -> Result<Option<Refusal>, NoMemory>
+    ensures { IfOk result (λ found. found ≡ locked_refusal state.now.sessions s name.now) }
+{
+    let Some(place) = holder(state, s, name) else {
+        return Ok(None);
+    };
+    let Ok(session) = u32::try_from(place) else {
+        return Err(NoMemory);
+    };
+    Ok(Some(Refusal::Locked {
+        table: name.again(),
+        session,
+    }))
+}
+
+/// The first other session whose transaction holds a name.
+fn holder(state: &PlainState, asks: u32, name: &Name) -> Option<usize>
+    ensures { result ≡ holder_from 0 state.now.sessions asks name.now }
+{
+    for (place, session) in state.sessions().iter().enumerate() {
+        if place == asks as usize {
+            continue;
+        }
+        if session.holds(name) {
+            return Some(place);
+        }
+    }
+    None
+}
+
+/// The refusal of the first of these names whose latest commit is past the snapshot.
+fn later_refusal(state: &PlainState, snapshot: u64, names: &Locks) -> Option<Refusal>
+    ensures { result ≡ first_found (later_refusal state.now.wrote snapshot) names.now }
+{
+    let (of_all, table) = names.parts();
+    if of_all {
+        if let Some(cause) = later_name(state, snapshot, &catalog()) {
+            return Some(cause);
+        }
+    }
+    match table {
+        None => None,
+        Some(name) => later_name(state, snapshot, name),
+    }
+}
+
+/// The refusal of a name whose latest commit is past the snapshot.
+fn later_name(state: &PlainState, snapshot: u64, name: &Name) -> Option<Refusal>
+    ensures { result ≡ later_refusal state.now.wrote snapshot name.now }
+{
+    let commit = latest_of(state, name);
+    if snapshot < commit {
+        return Some(Refusal::Later {
             table: name.again(),
-            session,
-        }))
+            commit,
+        });
     }
+    None
+}
 
-    /// The first other session whose transaction holds a name.
-    fn holder(&self, asks: u32, name: &Name) -> Option<usize>
-        ensures { result ≡ holder_from 0 self.now.sessions asks name.now }
-    {
-        for (place, session) in self.sessions.iter().enumerate() {
-            if place == asks as usize {
-                continue;
-            }
-            if session.holds(name) {
-                return Some(place);
-            }
-        }
-        None
-    }
-
-    /// The refusal of the first of these names whose latest commit is past the snapshot.
-    fn later_refusal(&self, snapshot: u64, names: &Locks) -> Option<Refusal>
-        ensures { result ≡ first_found (later_refusal self.now.wrote snapshot) names.now }
-    {
-        let (of_all, table) = names.parts();
-        if of_all {
-            if let Some(cause) = self.later_name(snapshot, &catalog()) {
-                return Some(cause);
-            }
-        }
-        match table {
-            None => None,
-            Some(name) => self.later_name(snapshot, name),
+/// The commit that last wrote a name, 0 where none did.
+fn latest_of(state: &PlainState, name: &Name) -> u64
+    ensures { result ≡ latest_of name.now state.now.wrote }
+{
+    for written in state.wrote() {
+        if written.is_named(name) {
+            return written.commit();
         }
     }
-
-    /// The refusal of a name whose latest commit is past the snapshot.
-    fn later_name(&self, snapshot: u64, name: &Name) -> Option<Refusal>
-        ensures { result ≡ later_refusal self.now.wrote snapshot name.now }
-    {
-        let commit = self.latest_of(name);
-        if snapshot < commit {
-            return Some(Refusal::Later {
-                table: name.again(),
-                commit,
-            });
-        }
-        None
-    }
-
-    /// The commit that last wrote a name, 0 where none did.
-    fn latest_of(&self, name: &Name) -> u64
-        ensures { result ≡ latest_of name.now self.now.wrote }
-    {
-        for written in &self.wrote {
-            if written.is_named(name) {
-                return written.commit();
-            }
-        }
-        0
-    }
+    0
 }
 
 /// A session whose transaction was ended by a restart or an exclusion of its node.

@@ -7,8 +7,7 @@ ghost use Rattle.iq_script_order.specs.Fixed.{IsUndisturbedRun};
 ghost use Rattle.iq_plain_runs.specs.Courses.{IsRun};
 
 use crate::course::PlainCourse;
-use crate::no_run::NoRun;
-use crate::state::PlainState;
+use iq_plain_state::{NoRun, PlainState};
 use iq_history::Entry;
 use iq_model::{Line, Reply, Script};
 use iq_plain_tables::PlainTable;

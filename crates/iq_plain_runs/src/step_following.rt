@@ -5,9 +5,8 @@ ghost use Rattle.iq_replay.specs.Refusals.{step_refusal};
 ghost use Rattle.iq_plain_runs.specs.Courses.{IsStepOf, IsFoundOf};
 
 use crate::following::is_certain;
-use crate::reports::{nodes_taking, report_of};
-use crate::state::PlainState;
 use crate::step_refusals::step_refusal;
+use iq_plain_state::{PlainState, nodes_taking, report_of};
 use iq_base::{Census, Name, NoMemory, Refusal};
 use iq_history::Entry;
 use iq_model::Step;

@@ -5,10 +5,9 @@ ghost use Rattle.iq_base.specs.declared.refusals.Refusal.TheVariants as refusals
 ghost use Rattle.iq_statements.specs.Checks.{found_if};
 ghost use Rattle.iq_replay.specs.Refusals.{at_node, excluded_refusal, coordinator_refusal, end_refusal, no_report, included_refusal, node_refusal, step_refusal};
 
-use crate::nodes::PlainNode;
 use crate::refusals::excluded_refusal;
-use crate::reports::report_of;
-use crate::state::PlainState;
+use iq_plain_sessions::{PlainNode};
+use iq_plain_state::{PlainState, report_of};
 use iq_base::{Name, Refusal};
 use iq_model::Step;
 
