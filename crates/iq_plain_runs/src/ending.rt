@@ -6,9 +6,9 @@ ghost use Rattle.iq_replay.specs.Lines.{first_running};
 ghost use Rattle.iq_replay.specs.Histories.{AllEnded, reply_in, replies_of};
 ghost use Rattle.iq_plain_runs.specs.Courses.{IsOver};
 
-use iq_plain_sessions::{PlainSession};
-use iq_plain_state::{PlainState};
 use iq_model::{Line, Reply};
+use iq_plain_sessions::PlainSession;
+use iq_plain_state::PlainState;
 
 /// Whether a line is under way in a session.
 pub(crate) fn is_under_way(state: &PlainState, s: u32, l: u32) -> bool {
@@ -41,7 +41,7 @@ pub(crate) fn is_over(state: &PlainState) -> bool
 }
 
 /// The reply to a line, if it was answered.
-pub(crate) fn reply(state: &PlainState, line: &Line) -> Option<&Reply>
+pub(crate) fn reply<'s>(state: &'s PlainState, line: &Line) -> Option<&'s Reply>
     ensures { option_copied result ≡ reply_in line.now.number (replies_of state.now line.now.session) }
 {
     match line.session {

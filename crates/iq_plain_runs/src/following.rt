@@ -13,15 +13,20 @@ ghost use Rattle.iq_script_order.specs.Fixed.{IsCertain};
 ghost use Rattle.iq_plain_runs.specs.Courses.{IsLineOf, IsFoundOf};
 
 use crate::refusals::refusal;
-use iq_plain_sessions::{PlainSession, PlainTransaction, wanted};
-use iq_plain_state::{PlainState, is_plain};
 use iq_ast::Statement;
 use iq_base::{Locks, NoMemory, Refusal};
 use iq_history::Entry;
+use iq_plain_sessions::{PlainSession, PlainTransaction, wanted};
+use iq_plain_state::{PlainState, is_plain};
 use std::alloc::Global;
 
 /// The next entry of a line, if it is the line under way of its session and the plain program runs its statement.
-pub(crate) fn next(state: &PlainState, alloc: Global, s: u32, l: u32) -> Result<Option<Entry>, NoMemory>
+pub(crate) fn next(
+    state: &PlainState,
+    alloc: Global,
+    s: u32,
+    l: u32,
+) -> Result<Option<Entry>, NoMemory>
     ensures { IfOk result (IsFoundOf state.now l) }
 {
     if state.is_closing() {

@@ -8,10 +8,10 @@ ghost use Rattle.iq_replay.specs.Commits.{latest_of};
 ghost use Rattle.iq_replay.specs.Refusals.{lost_refusal, at_node, excluded_refusal, reader_refusal, before_line, no_save, full_saves, transaction_refusal, locked_refusal, later_refusal, holder_from, line_checks};
 ghost use Rattle.iq_plain_runs.specs.Firsts.{session_refusal, run_refusal, behind_refusal};
 
-use iq_plain_sessions::{PlainNode, PlainSession, PlainTransaction, catalog, wanted};
-use iq_plain_state::{PlainState};
 use iq_ast::{Statement, Write};
 use iq_base::{Locks, Name, NoMemory, Refusal};
+use iq_plain_sessions::{PlainNode, PlainSession, PlainTransaction, catalog, wanted};
+use iq_plain_state::PlainState;
 use iq_plain_tables::{room_refusal, statement_refusal};
 use std::alloc::Global;
 

@@ -7,9 +7,9 @@ ghost use Rattle.iq_script_order.specs.Fixed.{IsUndisturbedRun};
 ghost use Rattle.iq_plain_runs.specs.Courses.{IsRun};
 
 use crate::course::PlainCourse;
-use iq_plain_state::{NoRun, PlainState};
 use iq_history::Entry;
 use iq_model::{Line, Reply, Script};
+use iq_plain_state::{NoRun, PlainState};
 use iq_plain_tables::PlainTable;
 use std::alloc::Global;
 use std::marker::Model;
@@ -53,7 +53,8 @@ impl<'a> PlainRun<'a> {
 }
 
 /// The run of a script in script order that nothing disturbs: from a store of so many blocks, of a device that tells what it
-/// holds, or not, and over these tables. Want of memory is free. The plain program runs no LOAD and no step, and says so.
+/// holds, or not, and over these tables. Want of memory is free. The plain program runs no LOAD, and says so. It has no blocks: it
+/// frees none, and SPACE counts all but the four root blocks as free.
 pub fn plain_run<'a>(
     alloc: Global,
     blocks: u32,

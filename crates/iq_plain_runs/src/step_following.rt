@@ -6,10 +6,10 @@ ghost use Rattle.iq_plain_runs.specs.Courses.{IsStepOf, IsFoundOf};
 
 use crate::following::is_certain;
 use crate::step_refusals::step_refusal;
-use iq_plain_state::{PlainState, nodes_taking, report_of};
 use iq_base::{Census, Name, NoMemory, Refusal};
 use iq_history::Entry;
 use iq_model::Step;
+use iq_plain_state::{PlainState, nodes_taking, report_of};
 use std::alloc::Global;
 
 /// The entry of the first step that is left, if it has this number.

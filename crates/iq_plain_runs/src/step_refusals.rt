@@ -6,10 +6,10 @@ ghost use Rattle.iq_statements.specs.Checks.{found_if};
 ghost use Rattle.iq_replay.specs.Refusals.{at_node, excluded_refusal, coordinator_refusal, end_refusal, no_report, included_refusal, node_refusal, step_refusal};
 
 use crate::refusals::excluded_refusal;
-use iq_plain_sessions::{PlainNode};
-use iq_plain_state::{PlainState, report_of};
 use iq_base::{Name, Refusal};
 use iq_model::Step;
+use iq_plain_sessions::PlainNode;
+use iq_plain_state::{PlainState, report_of};
 
 /// The first refusal of a step.
 pub(crate) fn step_refusal(state: &PlainState, step: &Step) -> Option<Refusal>
