@@ -21,5 +21,5 @@ returns-in-Release c =
 pub returns-in-Sync : goal.returns-in-Sync
 returns-in-Sync c =
     let same : c.args.statement.now ≡ statements.Sync = search rules in
-    let latest : c.self.inside.latest ≡ c.args.state.now.latest = search rules in
+    let latest : c.latest.result ≡ c.args.state.now.latest = search rules in
     rw latest (sync_next _ _ _ c.args.session.now c.args.statement.now c.requires.at same c.requires.granted)
