@@ -13,8 +13,8 @@ use Rattle.iq_floors.specs.Floors.{horizon}
 use Rattle.iq_replay.specs.State.{State, Node, Report, is_writing, changed_at}
 use Rattle.iq_replay.specs.Nodes.{is_coordinator, node_position, floor_of, taken_of, bounds_from, horizon_of, report_of}
 use Rattle.iq_replay.specs.Refusals.{step_refusal}
-use Rattle.iq_replay.specs.Asked.{FirstIs, StepIs, OfStep, OfTurn, OfNode, OfNodeStep, IsSecondary, IsZeroUnless}
-use Rattle.iq_replay.specs.Changes.{taken_up, with_taken}
+use Rattle.iq_replay.specs.Asked.{FirstIs, StepIs, OfStep, OfTurn, OfNode, OfNodeStep, IsZeroUnless}
+use Rattle.iq_replay.specs.Changes.{taken_up}
 use Rattle.iq_replay.specs.Entries.{IsPossible}
 use Rattle.iq_script_order.specs.Fixed.{IsCertain}
 use Rattle.iq_plain_runs.specs.Courses.{IsStepOf, IsNextOf}

@@ -6,7 +6,7 @@ use Rattle.iq_ast.specs.declared.statements.Statement.{Statement}
 use Rattle.std.specs.Option.{option_or}
 use Rattle.iq_statements.specs.Checks.{first_refusal, first_found}
 use Rattle.iq_statements.specs.Statements.{statement_checks, room_checks}
-use Rattle.iq_replay.specs.State.{State, Session, running, Run}
+use Rattle.iq_replay.specs.State.{State, Session, Run}
 use Rattle.iq_replay.specs.Refusals.{lost_refusal, at_node, excluded_refusal, before_line, transaction_refusal, reader_refusal, locked_refusal, later_refusal, wanted}
 use Rattle.iq_plain_sessions.specs.Plain.{run_of}
 

@@ -1,6 +1,6 @@
 //! The first refusal of a line.
 ghost use Rattle.std.specs.Prelude.{◌≡◌, IfOk};
-ghost use Rattle.std.specs.Option.{option_copied, option_or};
+ghost use Rattle.std.specs.Option.{option_copied};
 ghost use Rattle.iq_plain_tables.specs.Plain.{HasFewParts};
 ghost use Rattle.iq_statements.specs.Checks.{first_refusal, first_found};
 ghost use Rattle.iq_statements.specs.Statements.{HasMeaning, is_ddl};

@@ -1,5 +1,5 @@
 //! The first refusal of a step.
-ghost use Rattle.std.specs.Prelude.{◌≡◌, ◌∷◌, [], is_none, not};
+ghost use Rattle.std.specs.Prelude.{◌≡◌, ◌∷◌, [], is_none};
 ghost use Rattle.std.specs.Option.{option_copied};
 ghost use Rattle.iq_base.specs.declared.refusals.Refusal.TheVariants as refusals;
 ghost use Rattle.iq_statements.specs.Checks.{found_if};

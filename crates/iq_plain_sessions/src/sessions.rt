@@ -279,12 +279,7 @@ impl<'a> PlainSession<'a> {
     }
 
     /// The statement of the line takes effect.
-    pub fn take(
-        &mut self,
-        alloc: Global,
-        l: u32,
-        statement: &Statement,
-    ) -> Result<(), NoMemory>
+    pub fn take(&mut self, alloc: Global, l: u32, statement: &Statement) -> Result<(), NoMemory>
         requires meaning { HasMeaning statement.now }
         requires few { HasFewParts statement.now }
         ensures { OnOk result (self.new ≡ takes_effect (Some statement.now) l self.old) }

@@ -1,8 +1,5 @@
 //! What an entry changes in the state.
 ghost use Rattle.std.specs.Prelude.{◌≡◌, OnOk};
-ghost use Rattle.std.specs.Option.{option_copied};
-ghost use Rattle.iq_statements.specs.Statements.{HasMeaning};
-ghost use Rattle.iq_plain_tables.specs.Plain.{HasFewParts};
 ghost use Rattle.iq_history.specs.declared.entries.Entry.TheVariants as entries;
 ghost use Rattle.iq_replay.specs.Entries.{change};
 ghost use Rattle.iq_script_order.specs.Fixed.{IsUndisturbed};

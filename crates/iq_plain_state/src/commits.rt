@@ -2,8 +2,8 @@
 ghost use Rattle.std.specs.Prelude.{◌≡◌, ◌++◌, IfOk, map, fold};
 ghost use Rattle.iq_replay.specs.Commits.{written_names, with_seen, table_names, written_at};
 
-use iq_plain_sessions::{PlainWork, PlainWritten, catalog, copied_names};
 use iq_base::{Listed, Name, NoMemory};
+use iq_plain_sessions::{PlainWork, PlainWritten, catalog, copied_names};
 use iq_plain_tables::{PlainTable, PlainTables, copied_tables, with_seen};
 use std::alloc::Global;
 

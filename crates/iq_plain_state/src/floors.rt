@@ -6,10 +6,10 @@ ghost use Rattle.iq_floors.specs.Floors.{horizon};
 ghost use Rattle.iq_plain_state.specs.Versions.{version_at};
 
 use crate::state::PlainState;
-use iq_plain_sessions::{PlainNode, PlainSession};
 use iq_base::{Listed, NoMemory};
 use iq_floors::{floor, horizon};
 use iq_model::{NodeVersion, Versions};
+use iq_plain_sessions::{PlainNode, PlainSession};
 use std::alloc::Global;
 
 impl<'a> PlainState<'a> {

@@ -10,9 +10,9 @@ ghost use Rattle.iq_replay.specs.Changes.{statement_of, begins, locks_more, take
 
 use crate::commits::{committed, written_at, written_names};
 use crate::state::PlainState;
-use iq_plain_sessions::{PlainWork};
 use iq_ast::Statement;
 use iq_base::{Locks, Name, NoMemory, Refusal};
+use iq_plain_sessions::PlainWork;
 use iq_plain_tables::{PlainTable, copied_tables};
 use std::alloc::Global;
 use std::mem;

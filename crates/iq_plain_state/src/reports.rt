@@ -5,8 +5,8 @@ ghost use Rattle.iq_replay.specs.State.{changed_at};
 ghost use Rattle.iq_replay.specs.Nodes.{report_of};
 ghost use Rattle.iq_replay.specs.Changes.{without_report, taken_up};
 
-use iq_plain_sessions::{PlainNode, PlainReport};
 use iq_base::NoMemory;
+use iq_plain_sessions::{PlainNode, PlainReport};
 use std::alloc::Global;
 
 /// The first report of a number.

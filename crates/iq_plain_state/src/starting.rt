@@ -4,9 +4,9 @@ ghost use Rattle.iq_model.specs.declared.scripts.Line.{Line};
 ghost use Rattle.iq_replay.specs.Start.{start, node_start, is_of, is_step, sessions_from};
 
 use crate::state::PlainState;
-use iq_plain_sessions::{PlainNode, PlainSession};
 use iq_base::{Listed, NoMemory, NodeSpec, SessionSpec};
 use iq_model::{Line, Script};
+use iq_plain_sessions::{PlainNode, PlainSession};
 use iq_plain_tables::{PlainTable, copied_tables};
 use std::alloc::Global;
 

@@ -9,9 +9,9 @@ ghost use Rattle.iq_replay.specs.Nodes.{node_named};
 ghost use Rattle.iq_replay.specs.State.{with_node, moved_to};
 ghost use Rattle.iq_replay.specs.Commits.{database_of};
 
-use iq_plain_sessions::{PlainNode, PlainReport, PlainSession, PlainWritten};
 use iq_base::{Listed, Name};
 use iq_model::{Deed, Line, Reply, Step};
+use iq_plain_sessions::{PlainNode, PlainReport, PlainSession, PlainWritten};
 use iq_plain_tables::{PlainTable, PlainTables};
 use std::marker::Model;
 

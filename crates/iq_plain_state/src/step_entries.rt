@@ -9,9 +9,9 @@ ghost use Rattle.iq_replay.specs.Said.{versions_of};
 
 use crate::reports::{nodes_taking, report_of, without_report};
 use crate::state::PlainState;
-use iq_plain_sessions::{PlainReport, lose_all};
 use iq_base::{Census, NoMemory, Refusal};
 use iq_model::{Freed, Reply, Said, Sent};
+use iq_plain_sessions::{PlainReport, lose_all};
 use std::alloc::Global;
 
 impl<'a> PlainState<'a> {
