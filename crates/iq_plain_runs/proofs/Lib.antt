@@ -1,0 +1,4 @@
+pub mod Comes
+pub mod Found
+pub mod Next
+pub mod NextStep

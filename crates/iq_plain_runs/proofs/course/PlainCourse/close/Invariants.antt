@@ -1,0 +1,5 @@
+use Rattle.std.proofs.Common.{◌≡◌}
+use Rattle.iq_plain_runs.proofs.course.PlainCourse.close.Given as goal
+
+abbrev pub invariant-loop : goal.invariant-loop
+invariant-loop l = l.course.first ≡ l.fn.self.first
