@@ -35,6 +35,7 @@ impl Cmp {
         side: Side,
     ) -> Result<Bitmap, PageFault>
         requires { 3 * chunks_for self.now.slots ≤ MOST_PAGES }
+        ensures long { IfOk result (λ bits. length bits ≡ self.now.slots) }
         ensures rows { IfOk result (ArePairsOn self.now (S.told source.old) side op) }
         ensures reads { OnlyReads (2 * chunks_for self.now.slots) (view S.PageSource source.old) (view S.PageSource source.new) }
         ensures cause { IfErr result (HasPlanesCause self.now.object 3 self.now.slots (view S.PageSource source.old) (view S.PageSource source.new)) }
@@ -53,6 +54,7 @@ impl Cmp {
         op: Op,
     ) -> Result<Bitmap, PageFault>
         requires { 3 * chunks_for self.now.slots ≤ MOST_PAGES }
+        ensures long { IfOk result (λ bits. length bits ≡ self.now.slots) }
         ensures rows { IfOk result (ArePairsOn self.now (S.told source.old) sides.True op) }
         ensures reads { OnlyReads (planes_read op * chunks_for self.now.slots) (view S.PageSource source.old) (view S.PageSource source.new) }
         ensures cause { IfErr result (HasPlanesCause self.now.object 3 self.now.slots (view S.PageSource source.old) (view S.PageSource source.new)) }
@@ -78,6 +80,7 @@ impl Cmp {
         requires one { one < 3 }
         requires other { other < 3 }
         requires most { 3 * chunks_for self.now.slots ≤ MOST_PAGES }
+        ensures long { IfOk result (λ bits. length bits ≡ self.now.slots) }
         ensures rows { IfOk result (AreInEither self.now (S.told source.old) one other) }
         ensures reads { OnlyReads (2 * chunks_for self.now.slots) (view S.PageSource source.old) (view S.PageSource source.new) }
         ensures cause { IfErr result (HasPlanesCause self.now.object 3 self.now.slots (view S.PageSource source.old) (view S.PageSource source.new)) }

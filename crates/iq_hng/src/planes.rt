@@ -45,7 +45,7 @@ fn plane(alloc: Global, width: Width, j: u32, numbers: &Cells) -> Result<Bitmap,
     Ok(ones)
 }
 
-/// A number, or NULL.
+/// A number, or NULL. That the column's kind holds it is what its cell tells.
 fn number_at(width: Width, numbers: &Cells, i: usize) -> Value
     requires within { i < length numbers.now.values }
     requires kind { numbers.now.kind ≡ kind_of width }

@@ -25,6 +25,7 @@ impl Hng {
         number: i64,
     ) -> Result<Compared, PageFault>
         requires { planes_in self.now * chunks_for self.now.slots ≤ MOST_PAGES }
+        ensures long { IfOk result (AreLong self.now.slots) }
         ensures rows { IfOk result (GivesCompared self.now (S.told source.old) number) }
         ensures reads { OnlyReads (planes_in self.now * chunks_for self.now.slots) (view S.PageSource source.old) (view S.PageSource source.new) }
         ensures cause { IfErr result (HasPlanesCause self.now.object (planes_in self.now) self.now.slots (view S.PageSource source.old) (view S.PageSource source.new)) }
@@ -66,6 +67,7 @@ impl Hng {
     ) -> Result<Compared, PageFault>
         requires most { planes_in self.now * chunks_for self.now.slots ≤ MOST_PAGES }
         requires long { AreLong self.now.slots compared }
+        ensures long { IfOk result (AreLong self.now.slots) }
         ensures rows { IfOk result (Narrows self.now (S.told source.old) number (bits_of self.now.width) 0 compared) }
         ensures reads { OnlyReads (bits_of self.now.width * chunks_for self.now.slots) (view S.PageSource source.old) (view S.PageSource source.new) }
         ensures cause { IfErr result (HasPlanesCause self.now.object (planes_in self.now) self.now.slots (view S.PageSource source.old) (view S.PageSource source.new)) }
