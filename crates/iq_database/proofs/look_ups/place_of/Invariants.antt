@@ -1,0 +1,7 @@
+use Rattle.std.proofs.Common.{◌≡◌, drop}
+use Rattle.iq_database.specs.LookUps.{place_from}
+use Rattle.iq_database.proofs.look_ups.place_of.Given as goal
+
+-- what is left gives what all tables give
+abbrev pub invariant-loop-i : goal.invariant-loop-i
+invariant-loop-i l = place_from l.i l.name (drop l.i l.tables) ≡ place_from 0 l.name l.tables

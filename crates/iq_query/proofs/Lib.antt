@@ -1,0 +1,4 @@
+pub mod Simples
+pub mod Reading
+pub mod Walks
+pub mod Selects
