@@ -1,0 +1,4 @@
+pub mod Tests
+pub mod Changes
+pub mod Lists
+pub mod Appends
