@@ -1,5 +1,5 @@
 -- Columns that grow, one after the other.
-use Rattle.std.proofs.Common.{◌≡◌, ◌<◌, ◌≤◌, ℕ, ◌+◌, ◌*◌, ◌/◌, inl, inr, true, List, [], ◌∷◌, ◌++◌, take, drop, Option, length, refl, sym, ap, ap₂, ◌∙◌, subst, arith}
+use Rattle.std.proofs.Common.{◌≡◌, ◌<◌, ◌≤◌, ℕ, ◌+◌, ◌*◌, ◌/◌, inl, inr, true, true≢false, List, [], ◌∷◌, ◌++◌, take, drop, Option, length, refl, sym, ap, ap₂, ◌∙◌, subst, arith}
 use Rattle.std.specs.Prelude.{◌⊎◌, Some, None, IsSome, slice_get, slice_index_or}
 use Rattle.std.proofs.lemmas.Grind.{rows as page_rows}
 use Rattle.std.proofs.lemmas.Bool.{cases_lt}
@@ -14,20 +14,21 @@ use Rattle.iq_pages.specs.declared.page_faults.PageFault.{PageFault}
 use Rattle.iq_pages.specs.declared.page_faults.PageFault.TheVariants.{Failed, BadPage, NoMemory}
 use Rattle.iq_base.specs.Cells.{width}
 use Rattle.iq_pages.specs.Pages.{Pages, Seen, KeepsObjects, CountsMore}
-use Rattle.iq_pieces.specs.Counts.{per_page, KeepsOthers}
+use Rattle.iq_pieces.specs.Counts.{per_page, OnlyReads}
+use Rattle.iq_pieces.proofs.Counting.{reads_on, reads_none}
 use Rattle.iq_pages.proofs.PageLaws.{rose_since, counts_on}
 use Rattle.iq_pieces.specs.Faults.{HasSoundPage, CodesBelow, CellsOf}
 use Rattle.iq_cells.specs.Tables.{column_of}
 use Rattle.iq_fp.specs.declared.fp.Fp.{Fp}
 use Rattle.iq_fp.specs.Forms.{code_width}
-use Rattle.iq_fp.specs.Stands.{Stands}
 use Rattle.iq_fp.specs.Calls as fps
 use Rattle.iq_fp.specs.declared.plan.Plan.{Plan}
+use Rattle.iq_fp.specs.Plans.{IsPlanFor, IsReached}
 use Rattle.iq_fp.proofs.Growth.{stands_there, more_still, plan_there}
 use Rattle.iq_fp.proofs.Bounds.{written_within}
-use Rattle.iq_table.specs.Places.{existence_of, codes_of, values_of, new_part, part_at, fp_of}
-use Rattle.iq_table.specs.Calls.{IsPartGrown, ColumnsStandForMore, KeepsButColumns, TellsPlace, IsNoBadPage, HasColumnsCause, columns_read, columns_written, columns_most}
-use Rattle.iq_table.specs.Plans.{IsColumnPlan, ArePlans}
+use Rattle.iq_table.specs.Places.{codes_of, values_of, new_part, part_at, fp_of}
+use Rattle.iq_table.specs.Calls.{IsPartGrown, ColumnsStandForMore, KeepsButColumns, TellsColumns, IsNoBadPage, HasColumnsCause, columns_read, columns_written, columns_most}
+use Rattle.iq_table.specs.Plans.{IsColumnPlan}
 
 -- no column has changed yet
 pub keeps_none : (place : ℕ) (a : Seen) → KeepsButColumns place 0 a a
@@ -92,10 +93,6 @@ fp_is fp codes values kind slots ec ev ek es =
     ap (λ (n : ℕ). record fp { codes = n }) ec ∙ ap (λ (n : ℕ). record fp { codes = codes; values = n }) ev
     ∙ ap (λ (k : Kind). record fp { codes = codes; values = values; kind = k }) ek ∙ ap (λ (n : ℕ). record fp { codes = codes; values = values; kind = kind; slots = n }) es
 
--- where every object is kept, all columns are
-pub keeps_all : (place n : ℕ) (a b : Seen) → KeepsObjects a b → KeepsButColumns place n a b
-keeps_all place n a b k = record { told = λ object out. k.told object; counts = λ object out. k.counts object }
-
 -- the objects of a plan's column
 plan_codes : (place slots c : ℕ) (old new : ColumnPart) (rows : List (List Value)) (seen : Seen) (plan : Plan) → IsColumnPlan place slots c old new rows seen plan → plan.column.codes ≡ codes_of place c
 plan_codes place slots c old new rows seen plan is = ap (λ (fp : Fp). fp.codes) is.column
@@ -119,14 +116,18 @@ plan_still place slots c old new rows a b plan tc tv nc nv is =
       };
     }
 
--- and so do all plans where every object but that of existence is
-pub plans_still : (place slots : ℕ) (old new : List ColumnPart) (rows : List (List Value)) (a b : Seen) (plans : List Plan) → KeepsOthers (existence_of place) a b → ArePlans place slots old new rows a plans → ArePlans place slots old new rows b plans
-plans_still place slots old new rows a b plans k are = record {
-  long = are.long;
-  each = λ c plan here. plan_still place slots c (part_at c old) (part_at c new) rows a b plan
-      (k.told (codes_of place c) (λ e. absurd (omega arith))) (k.told (values_of place c) (λ e. absurd (omega arith)))
-      (k.counts (codes_of place c) (λ e. absurd (omega arith))) (k.counts (values_of place c) (λ e. absurd (omega arith))) (are.each c plan here);
-}
+-- a column's plan is one of the table's
+pub plan_made : (place slots k : ℕ) (parts : List ColumnPart) (rows : List (List Value)) (cells : List Value) (fp : Fp) (a b : Seen) (plan : Plan) → fp ≡ fp_of place slots k (part_at k parts) → cells ≡ column_of k rows → length cells ≡ length rows → KeepsObjects a b → plan.column ≡ fp → fps.IsLonger fp plan.grown (length cells) → IsPlanFor b.told cells plan → IsReached b.counts plan → IsColumnPlan place slots k (part_at k parts) (record (part_at k parts) { form = code_width plan.grown.distinct; distinct = plan.grown.distinct }) rows a plan
+plan_made place slots k parts rows cells fp a b plan fp_is cells_are many kept column longer made reached =
+    plan_still place slots k (part_at k parts) (record (part_at k parts) { form = code_width plan.grown.distinct; distinct = plan.grown.distinct }) rows b a plan
+    (sym (kept.told (codes_of place k))) (sym (kept.told (values_of place k))) (sym (kept.counts (codes_of place k))) (sym (kept.counts (values_of place k)))
+    (record {
+      column = column ∙ fp_is;
+      longer = subst (λ (f : Fp). fps.IsLonger f plan.grown (length rows)) (sym column) (subst (λ (n : ℕ). fps.IsLonger fp plan.grown n) many longer);
+      grown = refl;
+      made_for = subst (λ (vs : List Value). IsPlanFor b.told vs plan) cells_are made;
+      reached = reached;
+    })
 
 -- the last of plans
 plan_last : (plans more : List Plan) (plan : Plan) (k : ℕ) → length plans ≡ k → slice_get (plans ++ plan ∷ more) k ≡ Some plan
@@ -149,6 +150,10 @@ plans_next place slots k parts made part rows seen plans plan long_made long eac
 -- the next of plans
 pub plan_next : (plans done more : List Plan) (plan : Plan) → done ++ plan ∷ more ≡ plans → slice_get plans (length done) ≡ Some plan
 plan_next plans done more plan e = ap (λ (ps : List Plan). slice_get ps (length done)) (sym e) ∙ plan_last done more plan (length done) refl
+
+-- which holds where the columns before its own were written
+pub plan_now : (place slots k : ℕ) (old new : ColumnPart) (rows : List (List Value)) (a b : Seen) (plan : Plan) → KeepsButColumns place k a b → IsColumnPlan place slots k old new rows a plan → IsColumnPlan place slots k old new rows b plan
+plan_now place slots k old new rows a b plan kept is = plan_still place slots k old new rows a b plan (next_codes place k a b kept) (next_values place k a b kept) (kept.counts (codes_of place k) (inr (omega arith))) (kept.counts (values_of place k) (inr (omega arith))) is
 
 -- the columns that were written before stand on, and so does the next one
 pub stand_next : (place slots slots' k : ℕ) (parts made : List ColumnPart) (rows : List (List Value)) (plan : Plan) (a b d : Seen) → slots' ≡ slots + length rows → IsColumnPlan place slots k (part_at k parts) (part_at k made) rows b plan → KeepsButColumns place k a b → fps.KeepsOtherObjects (fp_of place slots k (part_at k parts)) b d → ColumnsStandForMore k place slots slots' parts made rows a.told b.told → fps.StandsForMore (fp_of place slots k (part_at k parts)) plan.grown (column_of k rows) b.told d.told → ColumnsStandForMore (k + 1) place slots slots' parts made rows a.told d.told
@@ -208,6 +213,16 @@ read_first slots c parts =
     let same : columns_read slots (take c parts ++ drop c parts) ≡ columns_read slots parts = ap (λ (ps : List ColumnPart). columns_read slots ps) (take-append-drop c parts) in
     omega (arith, whole, same)
 
+-- so a column more was read
+pub reads_next : (place slots k : ℕ) (parts : List ColumnPart) (fp : Fp) (a b d : Seen) → k < length parts → fp ≡ fp_of place slots k (part_at k parts) → OnlyReads (columns_read slots (take k parts)) a b → OnlyReads (fps.pages_read fp) b d → OnlyReads (columns_read slots (take (k + 1) parts)) a d
+reads_next place slots k parts fp a b d within is p q =
+    let here : OnlyReads (fps.pages_read (fp_of place slots k (part_at k parts))) b d = rw is at q in
+    reads_on (columns_read slots (take k parts)) (fps.pages_read (fp_of 0 slots 0 (part_at k parts))) (columns_read slots (take (k + 1) parts)) a b d (omega (arith, read_next slots k parts within)) p here
+
+-- and some columns are no more than all
+pub reads_first : (slots k : ℕ) (parts : List ColumnPart) (a b : Seen) → OnlyReads (columns_read slots (take k parts)) a b → OnlyReads (columns_read slots parts) a b
+reads_first slots k parts a b p = reads_on (columns_read slots (take k parts)) 0 (columns_read slots parts) a b b (omega (arith, read_first slots k parts)) p (reads_none 0 b)
+
 -- the most pages of one column more
 pub most_next : (slots more c : ℕ) (parts : List ColumnPart) → c < length parts → columns_most slots more (take (c + 1) parts) ≡ columns_most slots more (take c parts) + fps.most_written (fp_of 0 slots 0 (part_at c parts)) more
 most_next slots more c parts within =
@@ -223,12 +238,10 @@ most_first slots more c parts =
     omega (arith, whole, same)
 
 -- a column's cause, where its objects were kept before
-pub column_cause : (place slots c : ℕ) (parts : List ColumnPart) (a b d : Seen) (fault : PageFault) → c < length parts → KeepsButColumns place c a b → a.faults ≤ b.faults → fps.HasAppendCause (fp_of place slots c (part_at c parts)) b d fault → HasColumnsCause place slots parts a d fault
-column_cause place slots c parts a b d (Failed x y) within kept later h = rose_since _ _ _ _ _ later h
-column_cause place slots c parts a b d (BadPage named page) within kept later h =
-    let part = part_at c parts in
-    let ec = next_codes place c a b kept in
-    let ev = next_values place c a b kept in (
+pub column_cause : (place slots c : ℕ) (parts : List ColumnPart) (a b d : Seen) (fault : PageFault) → c < length parts → b.told (codes_of place c) ≡ a.told (codes_of place c) → b.told (values_of place c) ≡ a.told (values_of place c) → a.faults ≤ b.faults → fps.HasAppendCause (fp_of place slots c (part_at c parts)) b d fault → HasColumnsCause place slots parts a d fault
+column_cause place slots c parts a b d (Failed x y) within ec ev later h = rose_since _ _ _ _ _ later h
+column_cause place slots c parts a b d (BadPage named page) within ec ev later h =
+    let part = part_at c parts in (
       c,
       within,
       elim h [
@@ -245,7 +258,7 @@ column_cause place slots c parts a b d (BadPage named page) within kept later h 
         ])
       ],
     )
-column_cause place slots c parts a b d NoMemory within kept later h = tt
+column_cause place slots c parts a b d NoMemory within ec ev later h = tt
 
 -- of a plan, and of writing it
 pub planned_cause : (fp : Fp) (a b : Seen) (fault : PageFault) → fps.HasPlanCause fp a b fault → fps.HasAppendCause fp a b fault
@@ -259,15 +272,15 @@ sink_cause fp a b (BadPage named page) h = inr h
 sink_cause fp a b NoMemory h = tt
 
 -- writing a plan finds no bad page where the objects are told
-pub told_sink : (place slots c n : ℕ) (part : ColumnPart) (a b d : Seen) (fault : PageFault) → c < n → KeepsButColumns place c a b → TellsPlace a.told place n → fps.HasSinkCause (fp_of place slots c part) b d fault → IsNoBadPage fault
+pub told_sink : (place slots c n : ℕ) (part : ColumnPart) (a b d : Seen) (fault : PageFault) → c < n → KeepsButColumns place c a b → TellsColumns a.told place n → fps.HasSinkCause (fp_of place slots c part) b d fault → IsNoBadPage fault
 told_sink place slots c n part a b d (Failed x y) within kept tells h = tt
 told_sink place slots c n part a b d (BadPage named page) within kept tells h = elim h.0 [
   | inl codes ↦ (
       let none : a.told (codes_of place c) ≡ None = sym (next_codes place c a b kept) ∙ ap b.told (sym codes) ∙ h.1 in
-      subst IsSome none (tells (codes_of place c) (omega arith, omega arith)))
+      let dark : IsSome {T = Pages} None = subst IsSome none (tells c within).0 in absurd (true≢false (sym dark)))
   | inr values ↦ (
       let none : a.told (values_of place c) ≡ None = sym (next_values place c a b kept) ∙ ap b.told (sym values) ∙ h.1 in
-      subst IsSome none (tells (values_of place c) (omega arith, omega arith)))
+      let dark : IsSome {T = Pages} None = subst IsSome none (tells c within).1 in absurd (true≢false (sym dark)))
 ]
 told_sink place slots c n part a b d NoMemory within kept tells h = tt
 

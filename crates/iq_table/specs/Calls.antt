@@ -1,5 +1,5 @@
 -- What the calls on a table change and count, and why they fail.
-use Rattle.std.specs.Prelude.{◌≡◌, ◌≢◌, ◌<◌, ◌≤◌, ℕ, zero, suc, ◌+◌, ◌*◌, ◌/◌, ◌⊎◌, List, [], ◌∷◌, Option, None, IsSome, length, map, slice_index, sum_by, ⊤, ⊥}
+use Rattle.std.specs.Prelude.{◌≡◌, ◌≢◌, ◌<◌, ◌≤◌, ℕ, zero, suc, ◌+◌, ◌*◌, ◌/◌, ◌⊎◌, List, [], ◌∷◌, Option, None, IsSome, length, map, slice_index, sum_by, ⊤}
 use Rattle.iq_base.specs.declared.schemas.Column.{Column}
 use Rattle.iq_base.specs.declared.descriptors.ColumnPart.{ColumnPart}
 use Rattle.iq_base.specs.declared.descriptors.Descriptor.{Descriptor}
@@ -16,7 +16,7 @@ use Rattle.iq_fp.specs.Calls as columns
 use Rattle.iq_table.specs.declared.table.Table.{Table}
 use Rattle.iq_table.specs.declared.faults.TableFault.{TableFault}
 use Rattle.iq_table.specs.declared.faults.TableFault.TheVariants as faults
-use Rattle.iq_table.specs.Places.{existence_of, no_ref, new_part, part_at, fp_of, fp_at}
+use Rattle.iq_table.specs.Places.{existence_of, codes_of, values_of, no_ref, new_part, part_at, fp_of, fp_at}
 use Rattle.iq_table.specs.Limits.{limit_of}
 
 -- the descriptor of a table without rows
@@ -41,6 +41,10 @@ IsObjectOf place count object = (256 * place ≤ object) × (object ≤ 256 * pl
 -- the pages of existence and of so many columns are told
 abbrev pub TellsPlace : (ℕ → Option Pages) → ℕ → ℕ → Type 0
 TellsPlace told place count = (object : ℕ) → IsObjectOf place count object → IsSome (told object)
+
+-- those of so many columns are
+abbrev pub TellsColumns : (ℕ → Option Pages) → ℕ → ℕ → Type 0
+TellsColumns told place count = (c : ℕ) → c < count → IsSome (told (codes_of place c)) × IsSome (told (values_of place c))
 
 -- the pages of each of a table's objects are told
 abbrev pub TellsObjects : (ℕ → Option Pages) → Table → Type 0

@@ -9,10 +9,11 @@ ghost use Rattle.iq_fp.specs.Calls as fps;
 ghost use Rattle.iq_fp.specs.Plans.{IsPlanFor, IsReached};
 ghost use Rattle.iq_table.specs.Places.{part_at, part_kinds};
 ghost use Rattle.iq_table.specs.Limits.{FindsRoom};
-ghost use Rattle.iq_table.specs.Calls.{AreGrown, ColumnsStandForMore, KeepsButColumns, TellsPlace, IsNoBadPage, HasColumnsCause, columns_read, columns_written, columns_most};
+ghost use Rattle.iq_table.specs.Calls.{AreGrown, ColumnsStandForMore, KeepsButColumns, TellsColumns, IsNoBadPage, HasColumnsCause, columns_read, columns_written, columns_most};
 ghost use Rattle.iq_table.specs.Plans.{ArePlans};
 
 use crate::places::fp_of;
+use crate::table::cells_fit_pages;
 use iq_base::{ColumnPart, PAGE_BYTES, width};
 use iq_cells::{Cells, Rows};
 use iq_fp::{Fp, Plan, code_bytes};
@@ -95,7 +96,6 @@ pub(crate) fn write_columns<S: PageSink>(
 ) -> Result<Vec<ColumnPart>, PageFault>
     requires plans { ArePlans place slots parts.now planned.grown.items rows.now.rows (view S.PageSource sink.old) planned.plans.items }
     requires grown { AreGrown (length rows.now.rows) parts.now planned.grown.items }
-    requires kinds { (c : ℕ) → c < length parts.now → width (part_at c parts.now).kind ≤ 257 }
     ensures grown { IfOk result (λ grown. grown.items ≡ planned.grown.items) }
     ensures ok { OnOk result (ColumnsStandForMore (length parts.now) place slots (slots + length rows.now.rows) parts.now planned.grown.items rows.now.rows (S.told sink.old) (S.told sink.new)) }
     ensures others { KeepsButColumns place (length parts.now) (view S.PageSource sink.old) (view S.PageSource sink.new) }
@@ -103,11 +103,12 @@ pub(crate) fn write_columns<S: PageSink>(
     ensures written { OnOk result (CountsMore (columns_written slots (slots + length rows.now.rows) parts.now planned.grown.items) (S.writes sink.old) (S.writes sink.new)) }
     ensures unwritten { CountsUpTo (columns_most slots (length rows.now.rows) parts.now) (S.writes sink.old) (S.writes sink.new) }
     ensures later { S.faults sink.old ≤ S.faults sink.new }
-    ensures told { TellsPlace (S.told sink.old) place (length parts.now) → IfErr result IsNoBadPage }
+    ensures told { TellsColumns (S.told sink.old) place (length parts.now) → IfErr result IsNoBadPage }
     ensures cause { IfErr result (HasColumnsCause place slots parts.now (view S.PageSource sink.old) (view S.PageSource sink.new)) }
 {
+    cells_fit_pages(parts);
     let PlannedColumns { plans, grown } = planned;
-    let _of = (place, slots, parts, rows);
+    let _of = (place, slots, rows.len());
     for plan in plans {
         plan.carry_out(sink)?;
     }

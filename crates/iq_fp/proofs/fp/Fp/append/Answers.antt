@@ -1,8 +1,7 @@
-use Rattle.std.proofs.Common.{◌≡◌, ◌<◌, ◌≤◌, ◌+◌, ◌/◌, ℕ, length, ap, arith}
+use Rattle.std.proofs.Common.{◌≡◌, ◌<◌, ◌≤◌, ◌/◌, ℕ, length, ap, arith}
 use Rattle.std.proofs.lemmas.Grind.{rows}
 use Rattle.iq_base.specs.Cells.{width}
 use Rattle.iq_pieces.specs.Counts.{per_page, CountsUpTo}
-use Rattle.iq_fp.specs.declared.fp.Fp.{Fp}
 use Rattle.iq_fp.specs.Calls.{StandsForMore, pages_written, most_written}
 use Rattle.iq_fp.specs.Plans.{IsPlanFor}
 use Rattle.iq_fp.proofs.Bounds.{up_to_more, written_within}

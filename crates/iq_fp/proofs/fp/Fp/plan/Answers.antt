@@ -1,4 +1,4 @@
-use Rattle.std.proofs.Common.{◌≡◌, ◌+◌, ℕ, max, sym, ap, arith}
+use Rattle.std.proofs.Common.{◌+◌, ℕ, max, sym, ap, arith}
 use Rattle.iq_base.specs.Cells.{width}
 use Rattle.iq_pieces.specs.Counts.{pages_for}
 use Rattle.iq_pieces.proofs.Counting.{reads_on}

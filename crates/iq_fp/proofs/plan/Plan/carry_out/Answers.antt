@@ -1,4 +1,4 @@
-use Rattle.std.proofs.Common.{◌≡◌, sym, ap}
+use Rattle.std.proofs.Common.{sym}
 use Rattle.std.proofs.lemmas.Result.{on_ok_weaker}
 use Rattle.iq_fp.proofs.Growth.{plan_stands}
 use Rattle.iq_fp.proofs.plan.Plan.carry_out.Goals as goal
