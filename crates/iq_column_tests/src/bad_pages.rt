@@ -33,7 +33,7 @@ const HARMS: [(u32, Harm); 4] = [
     (EXISTENCE, Harm::LosesItsPages),
 ];
 
-fn harm(
+fn do_harm(
     rt: &impl Abort,
     store: &mut MemoryPages,
     object: u32,
@@ -97,7 +97,7 @@ fn a_bad_page_of_any_object_leaves_every_page(rt: HostRuntime) -> Result<(), Fai
         let mut table = made(&rt, rt.alloc(), &columns, &mut store)?;
         append(&rt, rt.alloc(), &mut table, &mut store, &first).map_err(|_| "append")?;
         let mut sound = store.copied()?;
-        harm(&rt, &mut store, object, how).map_err(|_| "harm")?;
+        do_harm(&rt, &mut store, object, how).map_err(|_| "harm")?;
         let mut kept = store.copied()?;
         let parts = parts_of(&table);
         let done = append(&rt, rt.alloc(), &mut table, &mut store, &more);
