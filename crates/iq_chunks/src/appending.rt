@@ -1,9 +1,10 @@
 //! Putting rows behind the last one of an object of bits.
-ghost use Rattle.std.specs.Prelude.{◌≡◌, ◌<◌, ◌≤◌, ◌+◌, ◌-◌, ◌*◌, ◌/◌, ◌%◌, ◌^◌, min, None, length, OnOk, OnErr, IfErr};
+ghost use Rattle.std.specs.Prelude.{◌≡◌, ◌<◌, ◌≤◌, ◌+◌, ◌-◌, ◌*◌, ◌/◌, ◌%◌, ◌^◌, min, None, IsSome, length, OnOk, OnErr, IfErr};
 ghost use Rattle.iq_base.specs.declared.sizes.TheConstants.{MOST_PAGES};
 ghost use Rattle.iq_pages.specs.PageCalls.{view};
 ghost use Rattle.iq_pages.specs.Pages.{CountsMore, HasCause};
 ghost use Rattle.iq_pieces.specs.Counts.{CountsUpTo, KeepsOthers};
+ghost use Rattle.iq_pieces.specs.Faults.{FindsBadFirst};
 ghost use Rattle.iq_chunks.specs.Chunks.{chunks_changed, AppendsOnes, HasBitsCause};
 
 use crate::one_page::set_in_page;
@@ -14,7 +15,8 @@ use iq_pieces::{read_page, save_page};
 use std::alloc::Global;
 
 /// Puts `more` rows that are set behind the `len` rows of an object. The last page is read where they don't fill it; each page
-/// from the one of the first new row on is written once. After an `Err` some of these may be written.
+/// from the one of the first new row on is written once. After an `Err` some of these may be written; none where the error is a bad
+/// page of an object that is told.
 pub fn append_ones<S: PageSink>(
     alloc: Global,
     sink: &mut S,
@@ -28,6 +30,7 @@ pub fn append_ones<S: PageSink>(
     ensures reads { CountsUpTo 1 (S.reads sink.old) (S.reads sink.new) }
     ensures written { OnOk result (CountsMore (chunks_changed len more) (S.writes sink.old) (S.writes sink.new)) }
     ensures unwritten { OnErr result (CountsUpTo (chunks_changed len more) (S.writes sink.old) (S.writes sink.new)) }
+    ensures bad_first { IsSome (S.told sink.old object) → IfErr result (FindsBadFirst (view S.PageSource sink.old) (view S.PageSource sink.new)) }
     ensures later { S.faults sink.old ≤ S.faults sink.new }
     ensures cause { IfErr result (HasBitsCause object len (view S.PageSource sink.old) (view S.PageSource sink.new)) }
 {
@@ -75,6 +78,7 @@ fn extend<S: PageSink>(
     ensures reads { CountsUpTo (min 1 (from % CHUNK_ROWS)) (S.reads sink.old) (S.reads sink.new) }
     ensures written { OnOk result (CountsMore 1 (S.writes sink.old) (S.writes sink.new)) }
     ensures unwritten { OnErr result (S.writes sink.new ≡ S.writes sink.old) }
+    ensures bad_first { IsSome (S.told sink.old object) → IfErr result (FindsBadFirst (view S.PageSource sink.old) (view S.PageSource sink.new)) }
     ensures later { S.faults sink.old ≤ S.faults sink.new }
     ensures cause { IfErr result (HasBitsCause object from (view S.PageSource sink.old) (view S.PageSource sink.new)) }
     // Only a page that is read may be missing.

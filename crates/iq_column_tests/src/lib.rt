@@ -3,6 +3,7 @@
 #![tactic(auto)]
 
 #[cfg(test)]
+mod bad_pages;
 mod bitmaps;
 #[cfg(test)]
 mod calls;

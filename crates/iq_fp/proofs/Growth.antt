@@ -1,6 +1,5 @@
 -- A column goes on with more values.
-use Rattle.std.proofs.Common.{◌≡◌, ◌≢◌, ◌<◌, ◌≤◌, ℕ, ◌+◌, ◌-◌, ◌*◌, ◌/◌, ◌%◌, ◌^◌, inl, inr, List, [], ◌++◌, map, Option, length, slice_index, zero-add, Bool, true, false, nat_eq, eq-eqb, if◌then◌else◌, sym, ap, ap₂, ◌∙◌, subst, arith}
-use Rattle.std.specs.Prelude.{Result, Ok, Err, OnOk}
+use Rattle.std.proofs.Common.{◌≡◌, ◌≢◌, ◌<◌, ℕ, ◌+◌, ◌-◌, ◌*◌, ◌/◌, ◌%◌, inl, inr, List, [], ◌++◌, map, Option, length, slice_index, zero-add, Bool, true, false, nat_eq, eq-eqb, if◌then◌else◌, sym, ap, ap₂, ◌∙◌, subst, arith}
 use Rattle.iq_pages.specs.declared.page_faults.PageFault.{PageFault}
 use Rattle.std.proofs.lemmas.Bool.{cases_lt}
 use Rattle.std.proofs.lemmas.List.{length-append, length-map, map-append, get_or_append_left, get_or-append-add, get_or-map, ext_get_or}
@@ -9,19 +8,22 @@ use Rattle.iq_base.specs.declared.values.Kind.{Kind}
 use Rattle.iq_base.specs.declared.values.Value.{Value}
 use Rattle.iq_base.specs.declared.values.Value.TheVariants.{Null}
 use Rattle.iq_base.specs.Cells.{width, cell, IsCell}
-use Rattle.iq_pages.specs.Pages.{Pages, Seen, CountsMore}
-use Rattle.iq_pages.proofs.PageLaws.{counts_on}
-use Rattle.std.proofs.lemmas.Bool.Decides.{nat_tests}
+use Rattle.iq_pages.specs.declared.page_faults.PageFault.TheVariants.{Failed, BadPage, NoMemory}
+use Rattle.iq_pages.specs.Pages.{Pages, Seen}
+use Rattle.iq_pieces.specs.Faults.{HasBehindCause}
+use Rattle.std.proofs.lemmas.Bool.Decides.{nat_tests, eqb_tells}
 use Rattle.iq_cells.specs.Pieces.{piece_in}
 use Rattle.iq_cells.specs.Packed.{value_at}
 use Rattle.iq_numbering.specs.Numbers.{AreDistinct, IsAt, IsNumbered}
 use Rattle.iq_pieces.specs.Counts.{per_page, pages_changed}
 use Rattle.iq_pieces.specs.Codes.{AreBelow}
-use Rattle.iq_pieces.specs.Objects.{piece_at, HoldsObject, BeginsAs, Appends, AppendsBehind, HoldsAnew}
+use Rattle.iq_pieces.specs.Objects.{piece_at, HoldsObject, BeginsAs, LoadsLast, AppendsBehind}
 use Rattle.iq_fp.specs.declared.fp.Fp.{Fp}
 use Rattle.iq_fp.specs.Forms.{code_width}
 use Rattle.iq_fp.specs.Stands.{Stands, HaveCells}
-use Rattle.iq_fp.specs.Calls.{SameObjects, GoOn, AreKnown, WritesParts, StandsForMore, StandsForNone, AreCodesOf, AreValuesOf, pages_written}
+use Rattle.iq_fp.specs.declared.plan.Plan.{Plan}
+use Rattle.iq_fp.specs.Calls.{HasReadCause, AreKnown, StandsForMore, StandsForNone, AreCodesOf, AreValuesOf, pages_written, codes_written}
+use Rattle.iq_fp.specs.Plans.{KeepsForm, AreNumbered, ArePlanned, IsPlanFor, WritesCodes}
 
 -- what stands among values stands there too where more come
 at_more : (vs more : List Value) (place : ℕ) (v : Value) → IsAt vs place v → IsAt (vs ++ more) place v
@@ -101,45 +103,61 @@ last_begins kind vs page count first some long is here = λ j h.
     ap (piece_in (width kind) page) (sym (zero-add j)) ∙ sym (here j early).bytes_are
     ∙ sym (get_or-map (cell kind) vs (count - first + j) Null [] within) ∙ ap (λ (i : ℕ). piece_at i (map (cell kind) vs)) place
 
--- values that come behind known ones, whose last page is known
-pub values_behind : (kind other : Kind) (known fresh : List Value) (last : List ℕ) (count : ℕ) (told told' : Option Pages) → other ≡ kind → length known ≡ count → BeginsAs (width kind) count last (map (cell kind) known) → AppendsBehind (width other) count last (map (cell other) fresh) told told' → HoldsObject told (width kind) (map (cell kind) known) → HoldsObject told' (width kind) (map (cell kind) known ++ map (cell kind) fresh)
-values_behind kind other known fresh last count told told' same long begins behind h =
-    let there : AppendsBehind (width kind) count last (map (cell kind) fresh) told told' = rw same at behind in
-    there (map (cell kind) known) (length-map known (cell kind) ∙ long) begins h
-
 -- codes behind those of the rows, in one form
-pub codes_same_form : (old new : Fp) (told between told' : ℕ → Option Pages) (w : ℕ) (more : List ℕ) → w ≡ code_width new.distinct → code_width old.distinct ≡ w → between old.codes ≡ told old.codes → Appends w old.slots (map (little_bytes w) more) (between old.codes) (told' old.codes) → (values : List Value) (stands : Stands old told values) → HoldsObject (told' old.codes) (code_width new.distinct) (map (little_bytes (code_width new.distinct)) (stands.codes ++ more))
-codes_same_form old new told between told' w more en eo same p values stands =
-    let held : HoldsObject (told old.codes) w (map (little_bytes w) stands.codes) = rw eo at stands.codes_held in
-    let whole : HoldsObject (told' old.codes) w (map (little_bytes w) stands.codes ++ map (little_bytes w) more) =
-    p (map (little_bytes w) stands.codes) (length-map stands.codes (little_bytes w) ∙ stands.numbered.long ∙ stands.slots) (rw same held) in
-    let joined : HoldsObject (told' old.codes) w (map (little_bytes w) (stands.codes ++ more)) = rw (map-append (little_bytes w) stands.codes more) whole in
-    rw en at joined
+codes_behind : (plan : Plan) (before after : ℕ → Option Pages) (more : List ℕ) → KeepsForm plan.column plan.grown → ArePlanned plan.column plan.grown before more plan.codes.items plan.last_codes → WritesCodes plan (before plan.column.codes) (after plan.column.codes) → (values : List Value) (stands : Stands plan.column before values) → HoldsObject (after plan.column.codes) (code_width plan.grown.distinct) (map (little_bytes (code_width plan.grown.distinct)) (stands.codes ++ more))
+codes_behind plan before after more same planned writes values stands =
+    let w = code_width plan.column.distinct in
+    let pieces = map (little_bytes w) stands.codes in
+    let long : length pieces ≡ plan.column.slots = length-map stands.codes (little_bytes w) ∙ stands.numbered.long ∙ stands.slots in
+    let whole : HoldsObject (after plan.column.codes) w (pieces ++ map (little_bytes w) plan.codes.items) = writes.behind same pieces long (planned.last same pieces long stands.codes_held) stands.codes_held in
+    let put : HoldsObject (after plan.column.codes) w (pieces ++ map (little_bytes w) more) = rw (planned.same same) at whole in
+    let joined : HoldsObject (after plan.column.codes) w (map (little_bytes w) (stands.codes ++ more)) = rw (map-append (little_bytes w) stands.codes more) put in
+    rw same joined
 
 -- all codes anew, in a wider form
-pub codes_wider : (old new : Fp) (told between told' : ℕ → Option Pages) (w : ℕ) (more all : List ℕ) → w ≡ code_width new.distinct → between old.codes ≡ told old.codes → GoOn old told more all → HoldsAnew w (map (little_bytes w) all) (between old.codes) (told' old.codes) → (values : List Value) (stands : Stands old told values) → HoldsObject (told' old.codes) (code_width new.distinct) (map (little_bytes (code_width new.distinct)) (stands.codes ++ more))
-codes_wider old new told between told' w more all en same goes p values stands =
-    let whole : HoldsObject (told' old.codes) w (map (little_bytes w) all) = p stands.codes_held.pages (same ∙ stands.codes_held.told_is) in
-    rw (goes values stands, en) at whole
+codes_anew : (plan : Plan) (before after : ℕ → Option Pages) (more : List ℕ) → code_width plan.grown.distinct ≢ code_width plan.column.distinct → ArePlanned plan.column plan.grown before more plan.codes.items plan.last_codes → WritesCodes plan (before plan.column.codes) (after plan.column.codes) → (values : List Value) (stands : Stands plan.column before values) → HoldsObject (after plan.column.codes) (code_width plan.grown.distinct) (map (little_bytes (code_width plan.grown.distinct)) (stands.codes ++ more))
+codes_anew plan before after more other planned writes values stands =
+    let w = code_width plan.grown.distinct in
+    let whole : HoldsObject (after plan.column.codes) w (map (little_bytes w) plan.codes.items) = writes.anew other stands.codes_held.pages stands.codes_held.told_is in
+    rw (planned.all other values stands) at whole
 
--- so the column stands for more values
-pub stands_more : (old new : Fp) (before after : Seen) (cells known fresh : List Value) (more : List ℕ) → SameObjects old new → new.slots ≡ old.slots + length cells → new.distinct ≡ old.distinct + length fresh → new.distinct ≤ 256 ^ 3 → HaveCells old.kind fresh → AreKnown old before.told known → IsNumbered known cells fresh more → WritesParts old new known fresh more before after → StandsForMore old new cells before.told after.told
-stands_more old new before after cells known fresh more same slots distinct few fresh_cells known_are numbered writes = λ values stands.
-    let is : known ≡ stands.known = known_are values stands in
-    let held : HoldsObject (before.told old.values) (width old.kind) (map (cell old.kind) known) = rw is stands.values_held in
-    let joined : HoldsObject (after.told old.values) (width old.kind) (map (cell old.kind) (stands.known ++ fresh)) = rw (map-append (cell old.kind) stands.known fresh, ← is) (writes.values held) in
-    let numbers : IsNumbered stands.known cells fresh more = rw is at numbered in
+codes_hold : (plan : Plan) (before after : ℕ → Option Pages) (more : List ℕ) → ArePlanned plan.column plan.grown before more plan.codes.items plan.last_codes → WritesCodes plan (before plan.column.codes) (after plan.column.codes) → (values : List Value) (stands : Stands plan.column before values) → HoldsObject (after plan.column.codes) (code_width plan.grown.distinct) (map (little_bytes (code_width plan.grown.distinct)) (stands.codes ++ more))
+codes_hold plan before after more planned writes values stands = elim (eqb_tells (code_width plan.grown.distinct) (code_width plan.column.distinct)) [
+  | inl same ↦ codes_behind plan before after more same.1 planned writes values stands
+  | inr other ↦ codes_anew plan before after more other.1 planned writes values stands
+]
+
+-- a plan that was written makes its column stand for more values
+pub plan_stands : (plan : Plan) (before after : ℕ → Option Pages) (cells : List Value) → IsPlanFor before cells plan → AppendsBehind (width plan.fresh.kind) plan.column.distinct plan.last_values (map (cell plan.fresh.kind) plan.fresh.values) (before plan.column.values) (after plan.column.values) → WritesCodes plan (before plan.column.codes) (after plan.column.codes) → StandsForMore plan.column plan.grown cells before after
+plan_stands plan before after cells is wrote writes = λ values stands.
+    let old = plan.column in
+    let fresh = plan.fresh.values in
+    let fits = plan.fits in
+    let numbered = is.numbered in
+    let known : numbered.known ≡ stands.known = numbered.known_are values stands in
+    let behind : AppendsBehind (width old.kind) old.distinct plan.last_values (map (cell old.kind) fresh) (before old.values) (after old.values) = rw fits.kind at wrote in
+    let begins : BeginsAs (width old.kind) old.distinct plan.last_values (map (cell old.kind) stands.known) = rw known at numbered.last in
+    let held : HoldsObject (after old.values) (width old.kind) (map (cell old.kind) stands.known ++ map (cell old.kind) fresh) =
+    behind (map (cell old.kind) stands.known) (length-map stands.known (cell old.kind) ∙ stands.distinct) begins stands.values_held in
+    let joined : HoldsObject (after old.values) (width old.kind) (map (cell old.kind) (stands.known ++ fresh)) = rw (map-append (cell old.kind) stands.known fresh) held in
+    let numbers : IsNumbered stands.known cells fresh is.more = rw known at numbered.numbered in
     record {
       known = stands.known ++ fresh;
-      codes = stands.codes ++ more;
-      slots = length-append values cells ∙ (omega (arith, stands.slots));
-      distinct = length-append stands.known fresh ∙ (omega (arith, stands.distinct));
-      few = few;
-      numbered = numbered_on values cells stands.known fresh stands.codes more stands.numbered numbers;
-      of_kind = rw same.kind (cells_on old.kind stands.known fresh stands.of_kind fresh_cells);
-      codes_held = rw same.codes (writes.codes values stands);
-      values_held = rw (same.values, same.kind) joined;
+      codes = stands.codes ++ is.more;
+      slots = length-append values cells ∙ (omega (arith, stands.slots, is.slots));
+      distinct = length-append stands.known fresh ∙ (omega (arith, stands.distinct, fits.distinct));
+      few = fits.few;
+      numbered = numbered_on values cells stands.known fresh stands.codes is.more stands.numbered numbers;
+      of_kind = rw fits.objects.kind (cells_on old.kind stands.known fresh stands.of_kind numbered.of_kind);
+      codes_held = rw fits.objects.codes (codes_hold plan before after is.more is.codes writes values stands);
+      values_held = rw (fits.objects.values, fits.objects.kind) joined;
     }
+
+-- why the last page of codes isn't read
+pub behind_cause : (fp : Fp) (a b : Seen) (fault : PageFault) → HasBehindCause (code_width fp.distinct) fp.slots fp.codes a b fault → HasReadCause fp a b fault
+behind_cause fp a b (Failed x y) h = h
+behind_cause fp a b (BadPage named page) h = inl (h.0, h.1, λ sound. h.2 (sound.0, sound.1, sound.2))
+behind_cause fp a b NoMemory h = tt
 
 -- distinct values that repeat one stand for nothing
 pub none_stands : (fp : Fp) (told : ℕ → Option Pages) (known : List Value) → AreKnown fp told known → ¬ (AreDistinct known) → StandsForNone fp told
@@ -182,46 +200,54 @@ all_are fp told told' known got codes ec ev known_are codes_are is = λ values s
 pub known_still : (fp : Fp) (told told' : ℕ → Option Pages) (known : List Value) → told fp.codes ≡ told' fp.codes → told fp.values ≡ told' fp.values → AreKnown fp told known → AreKnown fp told' known
 known_still fp told told' known ec ev are = λ values stands. are values (stands_there fp told' told values ec ev stands)
 
+pub numbered_there : (old : Fp) (told told' : ℕ → Option Pages) (cells fresh : List Value) (more last : List ℕ) → told' old.codes ≡ told old.codes → told' old.values ≡ told old.values → AreNumbered old told cells fresh more last → AreNumbered old told' cells fresh more last
+numbered_there old told told' cells fresh more last ec ev is = record {
+  known = is.known;
+  long = is.long;
+  known_are = known_still old told told' is.known (sym ec) (sym ev) is.known_are;
+  of_kind = is.of_kind;
+  numbered = is.numbered;
+  last = is.last;
+}
+
+pub planned_there : (old new : Fp) (told told' : ℕ → Option Pages) (more codes last : List ℕ) → told' old.codes ≡ told old.codes → told' old.values ≡ told old.values → ArePlanned old new told more codes last → ArePlanned old new told' more codes last
+planned_there old new told told' more codes last ec ev is = record {
+  same = is.same;
+  last = λ keeps. subst (λ (o : Option Pages). LoadsLast (code_width old.distinct) old.slots o last) (sym ec) (is.last keeps);
+  all = λ other values stands. is.all other values (stands_there old told' told values (sym ec) (sym ev) stands);
+}
+
 -- and what the column stands for after more were put behind, it stands for behind what it stood for before
 pub more_still : (old new : Fp) (told told' after : ℕ → Option Pages) (more : List Value) → told' old.codes ≡ told old.codes → told' old.values ≡ told old.values → StandsForMore old new more told' after → StandsForMore old new more told after
 more_still old new told told' after more ec ev p = λ values stands. p values (stands_there old told told' values ec ev stands)
 
--- how many pages an append in one form writes
-pub total_same : (old new : Fp) (kind : Kind) (k f s w : ℕ) → kind ≡ old.kind → k ≡ old.distinct → new.distinct ≡ old.distinct + f → new.slots ≡ old.slots + s → code_width new.distinct ≡ code_width old.distinct → w ≡ code_width new.distinct → pages_written old new ≡ pages_changed (width kind) k f + pages_changed w old.slots s
-total_same old new kind k f s w ek eb ed es same ew =
-    let test : nat_eq (code_width old.distinct) (code_width new.distinct) ≡ true = eq-eqb _ _ (sym same) in
-    let fresh : new.distinct - old.distinct ≡ f = omega arith in
-    let rows : new.slots - old.slots ≡ s = omega arith in
-    let wide : code_width old.distinct ≡ w = sym (ew ∙ same) in
-    ap (λ (t : Bool). pages_changed (width old.kind) old.distinct (new.distinct - old.distinct) + (if t then pages_changed (code_width old.distinct) old.slots (new.slots - old.slots) else pages_changed (code_width new.distinct) 0 new.slots)) test
-    ∙ ap₂ (λ (x : ℕ) (y : ℕ). pages_changed (width old.kind) old.distinct x + pages_changed (code_width old.distinct) old.slots y) fresh rows
-    ∙ ap₂ (λ (x : ℕ) (y : ℕ). pages_changed x old.distinct f + pages_changed y old.slots s) (ap width (sym ek)) wide
-    ∙ ap (λ (x : ℕ). pages_changed (width kind) x f + pages_changed w old.slots s) (sym eb)
+-- what a plan was made for depends on the pages of its column's two objects alone
+pub plan_there : (plan : Plan) (told told' : ℕ → Option Pages) (cells : List Value) → told' plan.column.codes ≡ told plan.column.codes → told' plan.column.values ≡ told plan.column.values → IsPlanFor told cells plan → IsPlanFor told' cells plan
+plan_there plan told told' cells ec ev is = record {
+  more = is.more;
+  slots = is.slots;
+  numbered = numbered_there plan.column told told' cells plan.fresh.values is.more plan.last_values ec ev is.numbered;
+  codes = planned_there plan.column plan.grown told told' is.more plan.codes.items plan.last_codes ec ev is.codes;
+}
 
--- and how many one in a wider form
-pub total_wider : (old new : Fp) (kind : Kind) (k f s w : ℕ) → kind ≡ old.kind → k ≡ old.distinct → new.distinct ≡ old.distinct + f → new.slots ≡ s → code_width new.distinct ≢ code_width old.distinct → w ≡ code_width new.distinct → pages_written old new ≡ pages_changed (width kind) k f + pages_changed w 0 s
-total_wider old new kind k f s w ek eb ed es other ew =
+-- how many pages of codes are written in one form
+pub codes_same : (old new : Fp) (w s : ℕ) → new.slots ≡ old.slots + s → KeepsForm old new → w ≡ code_width new.distinct → codes_written old new ≡ pages_changed w old.slots s
+codes_same old new w s es same ew =
+    let test : nat_eq (code_width old.distinct) (code_width new.distinct) ≡ true = eq-eqb _ _ (sym same) in
+    let rows : new.slots - old.slots ≡ s = omega arith in
+    ap (λ (t : Bool). if t then pages_changed (code_width old.distinct) old.slots (new.slots - old.slots) else pages_changed (code_width new.distinct) 0 new.slots) test
+    ∙ ap₂ (λ (x : ℕ) (y : ℕ). pages_changed x old.slots y) (sym (ew ∙ same)) rows
+
+-- and how many in a wider form
+pub codes_wider : (old new : Fp) (w s : ℕ) → new.slots ≡ s → code_width new.distinct ≢ code_width old.distinct → w ≡ code_width new.distinct → codes_written old new ≡ pages_changed w 0 s
+codes_wider old new w s es other ew =
     let differ : code_width old.distinct ≢ code_width new.distinct = λ e. other (sym e) in
     let test : nat_eq (code_width old.distinct) (code_width new.distinct) ≡ false = grind (arith, nat_tests) in
+    ap (λ (t : Bool). if t then pages_changed (code_width old.distinct) old.slots (new.slots - old.slots) else pages_changed (code_width new.distinct) 0 new.slots) test
+    ∙ ap₂ (λ (x : ℕ) (y : ℕ). pages_changed x 0 y) (sym ew) es
+
+-- how many of values, and so of both
+pub pages_both : (old new : Fp) (kind : Kind) (f : ℕ) → kind ≡ old.kind → new.distinct ≡ old.distinct + f → pages_written old new ≡ pages_changed (width kind) old.distinct f + codes_written old new
+pages_both old new kind f ek ed =
     let fresh : new.distinct - old.distinct ≡ f = omega arith in
-    ap (λ (t : Bool). pages_changed (width old.kind) old.distinct (new.distinct - old.distinct) + (if t then pages_changed (code_width old.distinct) old.slots (new.slots - old.slots) else pages_changed (code_width new.distinct) 0 new.slots)) test
-    ∙ ap₂ (λ (x : ℕ) (y : ℕ). pages_changed (width old.kind) old.distinct x + pages_changed (code_width new.distinct) 0 y) fresh es
-    ∙ ap₂ (λ (x : ℕ) (y : ℕ). pages_changed x old.distinct f + pages_changed y 0 s) (ap width (sym ek)) (sym ew)
-    ∙ ap (λ (x : ℕ). pages_changed (width kind) x f + pages_changed w 0 s) (sym eb)
-
--- so many were written
-pub written_same : (old new : Fp) (kind : Kind) (k f s w : ℕ) (a b c : Option ℕ) → kind ≡ old.kind → k ≡ old.distinct → new.distinct ≡ old.distinct + f → new.slots ≡ old.slots + s → code_width new.distinct ≡ code_width old.distinct → w ≡ code_width new.distinct → CountsMore (pages_changed w old.slots s) a b → CountsMore (pages_changed (width kind) k f) b c → CountsMore (pages_written old new) a c
-written_same old new kind k f s w a b c ek eb ed es same ew p q =
-    let total = total_same old new kind k f s w ek eb ed es same ew in
-    let turned : pages_changed w old.slots s + pages_changed (width kind) k f ≡ pages_changed (width kind) k f + pages_changed w old.slots s = omega arith in
-    rw (total, ← turned) (counts_on _ _ a b c p q)
-
-pub written_wider : (old new : Fp) (kind : Kind) (k f s w : ℕ) (a b c : Option ℕ) → kind ≡ old.kind → k ≡ old.distinct → new.distinct ≡ old.distinct + f → new.slots ≡ s → code_width new.distinct ≢ code_width old.distinct → w ≡ code_width new.distinct → CountsMore (pages_changed (width kind) k f) a b → CountsMore (pages_changed w 0 s) b c → CountsMore (pages_written old new) a c
-written_wider old new kind k f s w a b c ek eb ed es other ew p q =
-    let total = total_wider old new kind k f s w ek eb ed es other ew in
-    rw total (counts_on _ _ a b c p q)
-
--- two facts at an Ok give a third there
-pub on_ok_two : {P Q R : Type 0} → (r : Result (Unit {0}) PageFault) → (P → Q → R) → OnOk r P → OnOk r Q → OnOk r R
-on_ok_two (Ok x) f p q = f p q
-on_ok_two (Err e) f p q = tt
+    ap₂ (λ (k : Kind) (n : ℕ). pages_changed (width k) old.distinct n + codes_written old new) (sym ek) fresh

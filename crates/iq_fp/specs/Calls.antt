@@ -1,22 +1,19 @@
 -- What the calls on a column give, and why they fail.
-use Rattle.std.specs.Prelude.{◌≡◌, ◌≢◌, ◌<◌, ◌≤◌, ℕ, ◌+◌, ◌-◌, ◌*◌, ◌^◌, max, List, ◌++◌, ◌⊎◌, Option, Some, None, length, map, nat_eq, if◌then◌else◌, ⊤}
-use Rattle.byteorder.specs.Endian.{little_bytes}
+use Rattle.std.specs.Prelude.{◌≡◌, ◌≢◌, ◌<◌, ◌≤◌, ℕ, ◌+◌, ◌-◌, ◌*◌, ◌^◌, max, List, ◌++◌, ◌⊎◌, Option, Some, None, length, nat_eq, if◌then◌else◌, IsSome, ⊤}
 use Rattle.iq_pieces.specs.Codes.{AreBelow}
 use Rattle.iq_base.specs.declared.values.Value.{Value}
-use Rattle.iq_base.specs.Cells.{width, cell}
+use Rattle.iq_base.specs.Cells.{width}
 use Rattle.iq_outside.specs.Faults.{RoseWithin}
 use Rattle.iq_pages.specs.declared.page_faults.PageFault.{PageFault}
 use Rattle.iq_pages.specs.declared.page_faults.PageFault.TheVariants.{Failed, BadPage, NoMemory}
-use Rattle.iq_pages.specs.Pages.{Pages, Seen, CountsMore}
+use Rattle.iq_pages.specs.Pages.{Pages, Seen}
 use Rattle.iq_base.specs.declared.sizes.TheConstants.{MOST_PAGES}
 use Rattle.iq_cells.specs.Packed.{Column, value_at}
-use Rattle.iq_numbering.specs.declared.places.Numbered.{Numbered}
 use Rattle.iq_pieces.specs.Counts.{per_page, pages_for, pages_changed}
 use Rattle.iq_pieces.specs.Faults.{CellsOf, CodesBelow, HasSoundPage}
 use Rattle.iq_numbering.specs.Numbers.{AreDistinct}
 use Rattle.iq_fp.specs.declared.fp.Fp.{Fp}
 use Rattle.iq_fp.specs.Forms.{code_width}
-use Rattle.iq_pieces.specs.Objects.{HoldsObject}
 use Rattle.iq_fp.specs.Stands.{Stands}
 
 -- the value of a row, whatever values the column stands for
@@ -79,29 +76,43 @@ IsUntold fp told named = ((named ≡ fp.codes) ⊎ (named ≡ fp.values)) × (to
 abbrev pub IsRepeated : Fp → (ℕ → Option Pages) → ℕ → ℕ → Type 0
 IsRepeated fp told named page = (named ≡ fp.values) × (page < pages_for (width fp.kind) fp.distinct) × StandsForNone fp told
 
--- why the parts of a column aren't written: as it isn't read, or one of its objects, which the fault names, isn't told
-abbrev pub HasPartsCause : Fp → Seen → Seen → PageFault → Type 0
-HasPartsCause fp before after (Failed x y) = RoseWithin before.faults x y after.faults
-HasPartsCause fp before after (BadPage named page) = HasReadCause fp before after (BadPage named page) ⊎ IsUntold fp before.told named
-HasPartsCause fp before after NoMemory = ⊤
+-- why an append of a column isn't planned: as the column isn't read, or the page that the fault names is one of distinct values that
+-- stand for nothing
+abbrev pub HasPlanCause : Fp → Seen → Seen → PageFault → Type 0
+HasPlanCause fp before after (Failed x y) = RoseWithin before.faults x y after.faults
+HasPlanCause fp before after (BadPage named page) = HasReadCause fp before after (BadPage named page) ⊎ IsRepeated fp before.told named page
+HasPlanCause fp before after NoMemory = ⊤
 
--- why a column isn't appended to: as its parts aren't written, or the page that the fault names is one of distinct values that stand
--- for nothing
+-- why a planned append isn't written: the store failed, or one of the column's objects, which the fault names, isn't told
+abbrev pub HasSinkCause : Fp → Seen → Seen → PageFault → Type 0
+HasSinkCause fp before after (Failed x y) = RoseWithin before.faults x y after.faults
+HasSinkCause fp before after (BadPage named page) = IsUntold fp before.told named
+HasSinkCause fp before after NoMemory = ⊤
+
+-- why a column isn't appended to: as the append isn't planned, or as it isn't written
 abbrev pub HasAppendCause : Fp → Seen → Seen → PageFault → Type 0
 HasAppendCause fp before after (Failed x y) = RoseWithin before.faults x y after.faults
 HasAppendCause fp before after (BadPage named page) =
-    HasPartsCause fp before after (BadPage named page) ⊎ IsRepeated fp before.told named page
+    HasPlanCause fp before after (BadPage named page) ⊎ HasSinkCause fp before after (BadPage named page)
 HasAppendCause fp before after NoMemory = ⊤
+
+-- the pages of both objects of a column are told
+pub record AreTold (fp : Fp) (told : ℕ → Option Pages) : Type 0 where
+  pub codes : IsSome (told fp.codes)
+  pub values : IsSome (told fp.values)
 
 -- what changed of a column: its two objects, and every other object has the pages that it had
 pub record KeepsOtherObjects (fp : Fp) (before after : Seen) : Type 0 where
   pub told : (other : ℕ) → other ≢ fp.codes → other ≢ fp.values → after.told other ≡ before.told other
   pub counts : (other : ℕ) → other ≢ fp.codes → other ≢ fp.values → after.counts other ≡ before.counts other
 
--- how many pages an append writes: those of values that change, and those of codes, all of them where their form changes
+-- how many pages of codes an append writes: those that change, or all of them where their form changes
+abbrev pub codes_written : Fp → Fp → ℕ
+codes_written old new = if nat_eq (code_width old.distinct) (code_width new.distinct) then pages_changed (code_width old.distinct) old.slots (new.slots - old.slots) else pages_changed (code_width new.distinct) 0 new.slots
+
+-- how many pages an append writes: those of values that change, and those of codes
 abbrev pub pages_written : Fp → Fp → ℕ
-pages_written old new = pages_changed (width old.kind) old.distinct (new.distinct - old.distinct)
-    + (if nat_eq (code_width old.distinct) (code_width new.distinct) then pages_changed (code_width old.distinct) old.slots (new.slots - old.slots) else pages_changed (code_width new.distinct) 0 new.slots)
+pages_written old new = pages_changed (width old.kind) old.distinct (new.distinct - old.distinct) + codes_written old new
 
 -- how many an append of so many rows writes at most: as many as where each row has a value of its own that wasn't there before
 abbrev pub most_written : Fp → ℕ → ℕ
@@ -123,16 +134,16 @@ pub record IsLonger (old new : Fp) (more : ℕ) : Type 0 where
   pub distinct : old.distinct ≤ new.distinct
   pub most : new.distinct ≤ old.distinct + more
 
--- a column with more rows and more distinct values: the codes of the rows, numbered behind the known values
-pub record IsGrown (old new : Fp) (known : Column) (numbered : Numbered) : Type 0 where
+-- a column with more distinct values, these behind its own, and more rows, whose codes go behind its own where they stay in their form;
+-- else they are the codes of all rows
+pub record IsGrown (old new : Fp) (codes : List ℕ) (fresh : Column) : Type 0 where
   pub objects : SameObjects old new
   pub apart : old.codes ≢ old.values
-  pub known_kind : known.kind ≡ old.kind
-  pub fresh_kind : numbered.new.kind ≡ old.kind
-  pub before : length known.values ≡ old.distinct
-  pub distinct : new.distinct ≡ old.distinct + length numbered.new.values
-  pub slots : new.slots ≡ old.slots + length numbered.codes.items
-  pub below : AreBelow numbered.codes.items new.distinct
+  pub kind : fresh.kind ≡ old.kind
+  pub distinct : new.distinct ≡ old.distinct + length fresh.values
+  pub behind : code_width new.distinct ≡ code_width old.distinct → new.slots ≡ old.slots + length codes
+  pub anew : code_width new.distinct ≢ code_width old.distinct → new.slots ≡ length codes
+  pub below : AreBelow codes new.distinct
   pub few : new.distinct ≤ 256 ^ 3
   pub rows : new.slots ≤ 256 ^ 3
   pub room : new.distinct ≤ per_page (width old.kind) * MOST_PAGES
@@ -140,9 +151,3 @@ pub record IsGrown (old new : Fp) (known : Column) (numbered : Numbered) : Type 
 -- all codes, whatever values the column stands for, and more behind them
 abbrev pub GoOn : Fp → (ℕ → Option Pages) → List ℕ → List ℕ → Type 0
 GoOn fp told more all = (values : List Value) (stands : Stands fp told values) → all ≡ stands.codes ++ more
-
--- an append whose parts were written, from what was seen before to what is seen afterwards
-pub record WritesParts (old new : Fp) (known fresh : List Value) (more : List ℕ) (before after : Seen) : Type 0 where
-  pub values : HoldsObject (before.told old.values) (width old.kind) (map (cell old.kind) known) → HoldsObject (after.told old.values) (width old.kind) (map (cell old.kind) known ++ map (cell old.kind) fresh)
-  pub codes : (values : List Value) (stands : Stands old before.told values) → HoldsObject (after.told old.codes) (code_width new.distinct) (map (little_bytes (code_width new.distinct)) (stands.codes ++ more))
-  pub written : CountsMore (pages_written old new) before.writes after.writes

@@ -6,6 +6,7 @@
 #![tactic(auto)]
 
 mod appending;
+mod carrying_out;
 mod choosing;
 mod distinct;
 mod expanding;
@@ -14,8 +15,11 @@ mod laws;
 mod one_row;
 mod pairing;
 mod parts;
+mod plan;
+mod planning;
 mod reading;
 mod scanning;
 
 pub use fp::{Form, Fp, code_bytes, form_of};
 pub use laws::{longest_law, room_law, stands_law};
+pub use plan::Plan;

@@ -12,13 +12,13 @@ use std::alloc::Global;
 use std::process::Abort;
 use std::test::Fail;
 
-// 47 calls in all. A page has 201 cells of INT, and 1,008 codes of 1 byte or 504 of 2. What each step calls: pages of distinct values that are read,
+// 48 calls in all. A page has 201 cells of INT, and 1,008 codes of 1 byte or 504 of 2. What each step calls: pages of distinct values that are read,
 // of codes that are read, of values and of codes that are written, an object of codes that is made anew.
 const CALLS: [u64; 10] = [
     0 + 0 + 2 + 1, // 250 rows, each of its own value
     2 + 1 + 0 + 1, // 758 rows of these: the page of codes is full then, to its last byte
     2 + 0 + 1 + 1, // NULL, on a page of codes of its own
-    2 + 0 + 0 + 0, // no row
+    2 + 1 + 0 + 0, // no row
     2 + 2 + 1 + 3 + 1, // 6 rows more make 257 values: all codes anew
     2 + 3, // a scan
     1 + 1, // one value

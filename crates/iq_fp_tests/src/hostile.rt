@@ -1,6 +1,6 @@
 //! Pages whose bytes no writer left: the fault that is answered, and that nothing changes.
 use crate::columns::{
-    CODES, VALUES, bits, chosen, column, ints, paired, put, scanned, sure, value_of, whole,
+    CODES, VALUES, bits, chosen, column, ints, numbers, paired, put, scanned, sure, value_of, whole,
 };
 use iq_ast::{Op, Test};
 use iq_base::{Kind, Name, Page};
@@ -196,4 +196,23 @@ fn a_page_of_values_too_few(rt: HostRuntime) -> Result<(), Fail> {
         append: NO_VALUES,
     };
     assert_case(&rt, rt.alloc(), case)
+}
+
+#[test]
+fn a_code_that_is_none_where_all_are_written_anew(rt: HostRuntime) -> Result<(), Fail> {
+    // 255 values, of which the first row's code becomes 255; two more values, so that codes of 2 bytes are needed.
+    let mut store = sure(rt.alloc());
+    let cells = numbers(rt.alloc(), Kind::Int, 0, 255)?;
+    let more = numbers(rt.alloc(), Kind::Int, 255, 257)?;
+    let mut fp = column(&rt, rt.alloc(), &mut store, (CODES, VALUES), &cells)?;
+    set_byte(&rt, &mut store, CODES, 0, 255)?;
+    let before = fp;
+    let codes = page_of(&rt, &mut store, CODES)?;
+    let counts = (store.pages(CODES), store.pages(VALUES));
+    let fault = put(&rt, rt.alloc(), &mut fp, &mut store, &more).err();
+    assert!(rt; fault == BAD_CODES);
+    assert!(rt; fp == before);
+    assert!(rt; (store.pages(CODES), store.pages(VALUES)) == counts);
+    assert!(rt; page_of(&rt, &mut store, CODES)? == codes);
+    Ok(())
 }

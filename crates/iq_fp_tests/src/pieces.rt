@@ -3,7 +3,7 @@ use crate::columns::{assert_same, numbers, sure};
 use iq_base::{Kind, Page};
 use iq_cells::Cells;
 use iq_pages::{MemoryPages, PageFault, PageSource};
-use iq_pieces::{CodeList, Codes, append, append_behind, read, read_page, rewrite};
+use iq_pieces::{CodeList, Codes, append_behind, load_last, read, read_page, rewrite};
 use std::alloc::Global;
 use std::process::Abort;
 use std::test::Fail;
@@ -17,7 +17,9 @@ fn put(
 ) -> Result<(), PageFault> {
     assert!(rt; codes.iter().all(|code| *code < 16_777_216));
     assert!(rt; codes.len() < 1_000 && count < 1_000);
-    append(store, 9, count, &Codes::<3>::of(codes))
+    let mut last = [0; 1008];
+    load_last(store, 9, count, 3, &mut last)?;
+    append_behind(store, 9, count, &Codes::<3>::of(codes), &last)
 }
 
 // So many codes of 3 bytes of object 9, each below a number.
@@ -83,17 +85,20 @@ fn an_object_of_codes_is_made_anew(rt: HostRuntime) -> Result<(), Fail> {
     Ok(())
 }
 
-// Cells behind so many of object 2.
+// Cells behind so many of object 2, the last page of which is read.
 fn put_cells(
     rt: &impl Abort,
     store: &mut MemoryPages,
     count: u32,
     cells: &Cells,
-) -> Result<(), PageFault> {
-    assert!(rt; cells.kind() == Kind::Big && cells.len() < 1_000 && count < 1_000);
-    append(store, 2, count, cells)
+) -> Result<Page, PageFault> {
+    let mut last = [0; 1008];
+    load_last(store, 2, count, 9, &mut last)?;
+    put_behind(rt, store, count, cells, &last)?;
+    Ok(last)
 }
 
+// The same, where it is known.
 fn put_behind(
     rt: &impl Abort,
     store: &mut MemoryPages,
@@ -102,6 +107,7 @@ fn put_behind(
     last: &Page,
 ) -> Result<(), PageFault> {
     assert!(rt; cells.kind() == Kind::Big && cells.len() < 1_000 && count < 1_000);
+    assert!(rt; count / 112 <= store.pages(2));
     append_behind(store, 2, count, cells, last)
 }
 
@@ -132,11 +138,14 @@ fn cells_go_behind_a_last_page_that_is_known(rt: HostRuntime) -> Result<(), Fail
     assert!(rt; store.pages(2) == 3);
     let got = got_cells(rt.alloc(), &mut store, 300)?;
     assert_same(&rt, &got, &all);
-    // An object that has a page too few.
+    // Cells that come one by one, whose last page is read each time.
+    let one = numbers(rt.alloc(), Kind::Big, 300, 301)?;
+    let read = put_cells(&rt, &mut store, 300, &one)?;
+    assert!(rt; read == page_from(&rt, &all, 224));
+    // An object that has a page too few: one that is to be read, and one before those that are to be written.
     let third = PageFault::BadPage { object: 2, page: 3 };
-    let fourth = PageFault::BadPage { object: 2, page: 4 };
-    assert!(rt; put_behind(&rt, &mut store, 500, &more, &last) == Err(third));
-    assert!(rt; put_cells(&rt, &mut store, 500, &more) == Err(fourth));
+    assert!(rt; put_cells(&rt, &mut store, 337, &more) == Err(third));
+    assert!(rt; put_cells(&rt, &mut store, 448, &more) == Err(third));
     assert!(rt; got_cells(rt.alloc(), &mut store, 337).err() == Some(third));
     Ok(())
 }

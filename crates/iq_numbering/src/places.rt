@@ -29,7 +29,7 @@ pub fn number(alloc: Global, known: &Cells, cells: &Cells) -> Result<Numbered, N
     ensures ok { IfOk result (λ r.
         IsNumbered known.now.values cells.now.values r.new.values r.codes.items) }
 {
-    let mut keys = keys_of(alloc, known)?;
+    let mut keys = keys_of(alloc, known, cells.len())?;
     let mut codes = Vec::with_capacity(alloc, cells.len())?;
     let mut new = Cells::new(alloc, cells.kind());
     for i in 0..cells.len() {
@@ -38,12 +38,17 @@ pub fn number(alloc: Global, known: &Cells, cells: &Cells) -> Result<Numbered, N
     Ok(Numbered { codes, new })
 }
 
-/// The keys of distinct values, in their order.
-fn keys_of<'a>(alloc: Global, known: &'a Cells) -> Result<IndexSet<CellKey<'a>>, NoMemory>
-    requires { AreDistinct known.now.values }
+/// The keys of distinct values, in their order, with room for some more.
+fn keys_of<'a>(
+    alloc: Global,
+    known: &'a Cells,
+    more: usize,
+) -> Result<IndexSet<CellKey<'a>>, NoMemory>
+    requires distinct { AreDistinct known.now.values }
+    requires few { length known.now.values + more < 2 ^ 32 }
     ensures { IfOk result (λ keys. HasKeys known.now.kind known.now.values keys.keys) }
 {
-    let mut keys = IndexSet::with_capacity(alloc, known.len())?;
+    let mut keys = IndexSet::with_capacity(alloc, known.len() + more)?;
     for i in 0..known.len() {
         keys.insert(CellKey::of(known.cell(i)))?;
     }

@@ -9,7 +9,7 @@ use Rattle.std.proofs.lemmas.Option.{get_or_from_slice_get}
 use Rattle.iq_cells.specs.Pieces.{piece_in}
 use Rattle.iq_pages.specs.Pages.{Pages, IsPageOf}
 use Rattle.iq_pieces.specs.Counts.{per_page}
-use Rattle.iq_pieces.specs.Objects.{piece_at, page_at, Holds, HoldsAnew, LoadsLast, AppendsBehind, AddsPage, Appends}
+use Rattle.iq_pieces.specs.Objects.{piece_at, page_at, Holds, HoldsAnew, LoadsLast, AppendsBehind, AddsPage}
 
 -- before the first page
 pub behind_none : (w start n : ℕ) (last : List ℕ) (xs : List (List ℕ)) (told : Option Pages) → n ≡ 0 → AppendsBehind w start last (take n xs) told told
@@ -61,10 +61,6 @@ module _ (w start p : ℕ) (xs : List (List ℕ)) (begins : per_page w * p < sta
       append_assoc pieces done _ ∙ ap (λ (ys : List (List ℕ)). pieces ++ ys) joined in
       rw same at whole
 
--- nothing comes behind
-pub appends_none : (w count : ℕ) (xs : List (List ℕ)) (told : Option Pages) → length xs ≡ 0 → Appends w count xs told told
-appends_none w count xs told none = λ pieces e h. rw (nil_from_length xs none, append-nil) h
-
 -- a page that was read is the object's, so it begins as that does
 pub loads_last : (w count : ℕ) (told : Option Pages) (page : List ℕ) → 0 < per_page w → IsPageOf told (count / per_page w) page → LoadsLast w count told page
 loads_last w count told page some of = λ pieces e h j less.
@@ -75,10 +71,6 @@ loads_last w count told page some of = λ pieces e h j less.
 -- where the pieces fill the last page, nothing of it is to be read
 pub loads_none : (w count : ℕ) (told : Option Pages) (page : List ℕ) → count % per_page w ≡ 0 → LoadsLast w count told page
 loads_none w count told page full = λ pieces e h j less. absurd (omega arith)
-
--- a page that was read stands for the last one
-pub appends_loaded : (w count : ℕ) (last : List ℕ) (xs : List (List ℕ)) (told between told' : Option Pages) → between ≡ told → LoadsLast w count told last → AppendsBehind w count last xs between told' → Appends w count xs told told'
-appends_loaded w count last xs told between told' same loads p = λ pieces e h. p pieces e (loads pieces e h) (rw same h)
 
 -- an object without pages holds no pieces
 empty_holds : (w : ℕ) → 0 < per_page w → Holds w [] []

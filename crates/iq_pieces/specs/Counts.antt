@@ -33,3 +33,8 @@ pub record OnlyReads (pages : ℕ) (before after : Seen) : Type 0 where
   pub reads : CountsUpTo pages before.reads after.reads
   pub writes : after.writes ≡ before.writes
   pub later : before.faults ≤ after.faults
+
+-- no page was written, and every object has the pages that it had
+pub record WritesNothing (before after : Seen) : Type 0 where
+  pub kept : KeepsObjects before after
+  pub writes : after.writes ≡ before.writes

@@ -1,5 +1,5 @@
 -- Why the pieces of an object aren't read, or others not put behind them.
-use Rattle.std.specs.Prelude.{◌≡◌, ◌<◌, ◌≤◌, ℕ, ◌-◌, ◌*◌, min, List, Option, Some, None, length, ⊤}
+use Rattle.std.specs.Prelude.{◌≡◌, ◌<◌, ℕ, ◌-◌, ◌*◌, min, List, Option, Some, length, ⊤}
 use Rattle.byteorder.specs.Endian.{little_number}
 use Rattle.iq_base.specs.declared.values.Kind.{Kind}
 use Rattle.iq_base.specs.Cells.{width, IsCell}
@@ -9,7 +9,7 @@ use Rattle.iq_pages.specs.declared.page_faults.PageFault.TheVariants.{Failed, Ba
 use Rattle.iq_pages.specs.Pages.{Pages, Seen}
 use Rattle.iq_cells.specs.Pieces.{piece_in}
 use Rattle.iq_cells.specs.Packed.{value_of_cell}
-use Rattle.iq_pieces.specs.Counts.{per_page, pages_for}
+use Rattle.iq_pieces.specs.Counts.{per_page, pages_for, WritesNothing}
 use Rattle.iq_pieces.specs.Objects.{page_at}
 
 -- what each piece has to be: the cell of a value of a kind, or a code of w bytes that is below a number
@@ -57,13 +57,15 @@ HasPiecesCause form count object before after (BadPage named page) =
     (named ≡ object) × (page < pages_for (form_width form) count) × ¬ (HasSoundPage form count (before.told object) page)
 HasPiecesCause form count object before after NoMemory = ⊤
 
--- an object that isn't told, or has no such page though so many pieces of w bytes need it
-abbrev pub LacksPage : ℕ → ℕ → Option Pages → ℕ → Type 0
-LacksPage w count None page = ⊤
-LacksPage w count (Some pages) page = (length pages ≤ page) × (page < pages_for w count)
-
--- why pieces of w bytes aren't put behind so many: the store failed, or the object, which the fault names, lacks a page of those
+-- why the last page of so many pieces of w bytes isn't read, so that others can be put behind them: the store failed, or the object,
+-- which the fault names, isn't told or lacks a page that they need
 abbrev pub HasBehindCause : ℕ → ℕ → ℕ → Seen → Seen → PageFault → Type 0
 HasBehindCause w count object before after (Failed x y) = RoseWithin before.faults x y after.faults
-HasBehindCause w count object before after (BadPage named page) = (named ≡ object) × LacksPage w count (before.told object) page
+HasBehindCause w count object before after (BadPage named page) = (named ≡ object) × (page < pages_for w count) × ¬ (HasPage (before.told object) page)
 HasBehindCause w count object before after NoMemory = ⊤
+
+-- a bad page was found before the first page was written
+abbrev pub FindsBadFirst : Seen → Seen → PageFault → Type 0
+FindsBadFirst before after (Failed x y) = ⊤
+FindsBadFirst before after (BadPage named page) = WritesNothing before after
+FindsBadFirst before after NoMemory = ⊤

@@ -37,10 +37,6 @@ pub record HoldsObject (told : Option Pages) (w : ℕ) (pieces : List (List ℕ)
 abbrev pub AreFirst : Option Pages → ℕ → List (List ℕ) → Type 0
 AreFirst told w pieces = (pages : Pages) → told ≡ Some pages → HoldsInOrder w pages pieces
 
--- whatever so many pieces the object holds, it holds more behind them afterwards
-abbrev pub Appends : ℕ → ℕ → List (List ℕ) → Option Pages → Option Pages → Type 0
-Appends w count more before after = (pieces : List (List ℕ)) → length pieces ≡ count → HoldsObject before w pieces → HoldsObject after w (pieces ++ more)
-
 -- the page begins with those of so many pieces that stand on the last page, where they don't fill it
 abbrev pub BeginsAs : ℕ → ℕ → List ℕ → List (List ℕ) → Type 0
 BeginsAs w count page pieces = (j : ℕ) → j < count % per_page w → piece_in w page j ≡ piece_at (per_page w * (count / per_page w) + j) pieces
@@ -49,7 +45,8 @@ BeginsAs w count page pieces = (j : ℕ) → j < count % per_page w → piece_in
 abbrev pub LoadsLast : ℕ → ℕ → Option Pages → List ℕ → Type 0
 LoadsLast w count told page = (pieces : List (List ℕ)) → length pieces ≡ count → HoldsObject told w pieces → BeginsAs w count page pieces
 
--- the same where a page that begins as the last one takes its place
+-- whatever so many pieces the object holds, it holds more behind them afterwards, where a page that begins as its last one takes
+-- the place of that
 abbrev pub AppendsBehind : ℕ → ℕ → List ℕ → List (List ℕ) → Option Pages → Option Pages → Type 0
 AppendsBehind w count last more before after = (pieces : List (List ℕ)) → length pieces ≡ count → BeginsAs w count last pieces → HoldsObject before w pieces → HoldsObject after w (pieces ++ more)
 

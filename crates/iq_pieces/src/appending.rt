@@ -4,7 +4,7 @@ ghost use Rattle.iq_base.specs.declared.sizes.TheConstants.{MOST_PAGES};
 ghost use Rattle.iq_pages.specs.PageCalls.{view};
 ghost use Rattle.iq_pages.specs.Pages.{CountsMore, HasCause};
 ghost use Rattle.iq_pieces.specs.Counts.{per_page, pages_changed, CountsUpTo, KeepsOthers, OnlyReads};
-ghost use Rattle.iq_pieces.specs.Objects.{Appends, AppendsBehind, AddsPage, LoadsLast, HoldsAnew};
+ghost use Rattle.iq_pieces.specs.Objects.{AppendsBehind, AddsPage, LoadsLast, HoldsAnew};
 ghost use Rattle.iq_pieces.specs.Faults.{HasBehindCause};
 
 use crate::pages::{read_page, save_page};
@@ -12,34 +12,9 @@ use crate::pieces::Pieces;
 use iq_base::{PAGE_BYTES, Page};
 use iq_pages::{PageFault, PageSink, PageSource};
 
-/// Puts pieces behind the last of the `count` pieces of an object. The last page is read where they don't fill it; each page from
-/// the one of the first new piece on is written once. After an `Err` some of these may be written.
-pub fn append<S: PageSink, P: Pieces>(
-    sink: &mut S,
-    object: u32,
-    count: u32,
-    items: &P,
-) -> Result<(), PageFault>
-    requires small { count + length (P.pieces items.now) < 2 ^ 32 }
-    requires room { count + length (P.pieces items.now) ≤ per_page (P.width items.now) * MOST_PAGES }
-    ensures ok { OnOk result (Appends (P.width items.now) count (P.pieces items.now) (S.told sink.old object) (S.told sink.new object)) }
-    ensures others { KeepsOthers object (view S.PageSource sink.old) (view S.PageSource sink.new) }
-    ensures reads { CountsUpTo 1 (S.reads sink.old) (S.reads sink.new) }
-    ensures written { OnOk result (CountsMore (pages_changed (P.width items.now) count (length (P.pieces items.now))) (S.writes sink.old) (S.writes sink.new)) }
-    ensures unwritten { CountsUpTo (pages_changed (P.width items.now) count (length (P.pieces items.now))) (S.writes sink.old) (S.writes sink.new) }
-    ensures later { S.faults sink.old ≤ S.faults sink.new }
-    ensures cause { IfErr result (HasBehindCause (P.width items.now) count object (view S.PageSource sink.old) (view S.PageSource sink.new)) }
-{
-    if items.count() == 0 {
-        return Ok(());
-    }
-    let mut last = [0; PAGE_BYTES];
-    load_last(sink, object, count, items.width(), &mut last)?;
-    append_behind(sink, object, count, items, &last)
-}
-
-/// Reads the last page of an object, where `count` pieces of so many bytes don't fill it.
-fn load_last<S: PageSource>(
+/// Reads the last page of an object, where `count` pieces of so many bytes don't fill it, so that others can be put behind them. An
+/// object that lacks a page before that of the next piece is answered by the first page that isn't there.
+pub fn load_last<S: PageSource>(
     source: &mut S,
     object: u32,
     count: u32,
@@ -48,17 +23,24 @@ fn load_last<S: PageSource>(
 ) -> Result<(), PageFault>
     requires { (1 ≤ width) × (width ≤ 257) }
     ensures ok { OnOk result (LoadsLast width count (S.told source.old object) into.new) }
+    ensures reached { OnOk result (count / per_page width ≤ S.counts source.old object) }
     ensures reads { OnlyReads 1 (view S.PageSource source.old) (view S.PageSource source.new) }
     ensures cause { IfErr result (HasBehindCause width count object (view S.PageSource source.old) (view S.PageSource source.new)) }
 {
     let per = PAGE_BYTES / width;
+    let have = source.pages(object);
+    if (have as usize) < count as usize / per {
+        return Err(PageFault::BadPage { object, page: have });
+    }
     if count as usize % per == 0 {
         return Ok(());
     }
     read_page(source, object, (count as usize / per) as u32, into)
 }
 
-/// The same, where the last page is known: `last` begins as that page does, and takes its place. No page is read.
+/// Puts pieces behind the last of the `count` pieces of an object, whose last page is known: `last` begins as that page does, and
+/// takes its place. No page is read; each page from the one of the first new piece on is written once. After an `Err` some of these
+/// may be written.
 pub fn append_behind<S: PageSink, P: Pieces>(
     sink: &mut S,
     object: u32,
@@ -68,21 +50,17 @@ pub fn append_behind<S: PageSink, P: Pieces>(
 ) -> Result<(), PageFault>
     requires small { count + length (P.pieces items.now) < 2 ^ 32 }
     requires room { count + length (P.pieces items.now) ≤ per_page (P.width items.now) * MOST_PAGES }
+    requires reached { count / per_page (P.width items.now) ≤ S.counts sink.old object }
     ensures ok { OnOk result (AppendsBehind (P.width items.now) count last.now (P.pieces items.now) (S.told sink.old object) (S.told sink.new object)) }
     ensures others { KeepsOthers object (view S.PageSource sink.old) (view S.PageSource sink.new) }
     ensures reads { S.reads sink.new ≡ S.reads sink.old }
     ensures written { OnOk result (CountsMore (pages_changed (P.width items.now) count (length (P.pieces items.now))) (S.writes sink.old) (S.writes sink.new)) }
     ensures unwritten { CountsUpTo (pages_changed (P.width items.now) count (length (P.pieces items.now))) (S.writes sink.old) (S.writes sink.new) }
     ensures later { S.faults sink.old ≤ S.faults sink.new }
-    ensures cause { IfErr result (HasBehindCause (P.width items.now) count object (view S.PageSource sink.old) (view S.PageSource sink.new)) }
+    ensures cause { IfErr result (HasCause object (view S.PageSource sink.old) (view S.PageSource sink.new)) }
 {
-    let per = PAGE_BYTES / items.width();
-    let have = sink.pages(object);
     if items.count() == 0 {
         return Ok(());
-    }
-    if (have as usize) < count as usize / per {
-        return Err(PageFault::BadPage { object, page: have });
     }
     fill_pages(sink, object, count as usize, items, last)
 }

@@ -13,7 +13,7 @@ mod pieces;
 mod reading;
 mod taking;
 
-pub use appending::{append, append_behind, rewrite};
+pub use appending::{append_behind, load_last, rewrite};
 pub use code_list::CodeList;
 pub use codes::Codes;
 pub use pages::{read_page, save_page};

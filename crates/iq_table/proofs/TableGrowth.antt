@@ -1,50 +1,94 @@
 -- Rows that come behind those of a table.
 use Rattle.std.proofs.Common.{◌≡◌, ◌≢◌, ◌<◌, ◌≤◌, ℕ, zero, suc, ◌+◌, ◌-◌, ◌*◌, ◌/◌, inl, inr, true, List, [], ◌++◌, Option, length, replicate, refl, sym, ap, ◌∙◌, subst, arith}
-use Rattle.std.specs.Prelude.{◌⊎◌}
+use Rattle.std.specs.Prelude.{◌⊎◌, IsSome}
 use Rattle.std.proofs.lemmas.Bool.{cases_lt}
 use Rattle.std.proofs.lemmas.List.{length-append, length-replicate, get_or_append_left, get_or-append-add, map-append}
 use Rattle.iq_base.specs.declared.values.Value.{Value}
 use Rattle.iq_base.specs.declared.descriptors.ColumnPart.{ColumnPart}
 use Rattle.iq_pages.specs.declared.page_faults.PageFault.{PageFault}
 use Rattle.iq_pages.specs.declared.page_faults.PageFault.TheVariants.{Failed, BadPage, NoMemory}
-use Rattle.iq_pages.specs.Pages.{Pages, Seen}
+use Rattle.iq_pages.specs.Pages.{Pages, Seen, KeepsObjects}
 use Rattle.iq_pages.proofs.PageLaws.{rose_since}
 use Rattle.iq_pieces.specs.Counts.{KeepsOthers}
 use Rattle.iq_cells.specs.Packed.{value_at}
 use Rattle.iq_cells.specs.Tables.{row_at, column_of}
 use Rattle.iq_chunks.specs.Chunks.{HoldsBits, AppendsOnes, LacksPage, HasBitsCause, chunks_changed}
 use Rattle.iq_fp.specs.Stands.{Stands}
-use Rattle.iq_fp.proofs.Growth.{stands_there}
+use Rattle.iq_fp.proofs.Growth.{more_still}
+use Rattle.iq_table.proofs.Growth.{column_cause, plan_still}
+use Rattle.iq_fp.specs.declared.plan.Plan.{Plan}
+use Rattle.iq_pieces.specs.Faults as pieces
+use Rattle.iq_table.specs.Plans.{ArePlans}
 use Rattle.iq_table.specs.declared.table.Table.{Table}
 use Rattle.iq_table.specs.Faults.{table_fault}
 use Rattle.iq_table.specs.Places.{existence_of, codes_of, values_of, part_at, fp_of}
 use Rattle.iq_table.specs.Table.{StandsForMore}
-use Rattle.iq_table.specs.Calls.{HasGrown, ColumnsStandForMore, KeepsButColumns, KeepsButRows, KeepsOtherTables, HasColumnsCause, HasWriteCause, HasAppendCause, columns_written, append_writes}
+use Rattle.iq_table.specs.Calls.{HasGrown, ColumnsStandForMore, KeepsButColumns, KeepsButRows, KeepsOtherTables, TellsPlace, TellsColumns, IsNoBadPage, HasColumnsCause, HasWriteCause, HasAppendCause, columns_written, append_writes}
 
--- columns stand on where only existence changes
-pub columns_keep : (n place slots slots' : ℕ) (old new : List ColumnPart) (rows : List (List Value)) (before between after : ℕ → Option Pages) → ((other : ℕ) → other ≢ existence_of place → after other ≡ between other) → ColumnsStandForMore n place slots slots' old new rows before between → ColumnsStandForMore n place slots slots' old new rows before after
-columns_keep n place slots slots' old new rows before between after keep p = λ c h values stands.
-    stands_there (fp_of place slots' c (part_at c new)) between after (values ++ column_of c rows)
-    (keep (codes_of place c) (λ e. absurd (omega (arith, e)))) (keep (values_of place c) (λ e. absurd (omega (arith, e)))) (p c h values stands)
+-- columns are as they were where only existence changed
+pub codes_kept : (place c : ℕ) (a b d : Seen) → KeepsObjects a b → KeepsOthers (existence_of place) b d → d.told (codes_of place c) ≡ a.told (codes_of place c)
+codes_kept place c a b d k o = o.told (codes_of place c) (λ e. absurd (omega (arith, e))) ∙ k.told (codes_of place c)
 
--- what columns and existence change
-pub rows_keep : (place n : ℕ) (a b c : Seen) → KeepsButColumns place n a b → KeepsOthers (existence_of place) b c → KeepsButRows place n a c
-rows_keep place n a b c k o = record {
+pub values_kept : (place c : ℕ) (a b d : Seen) → KeepsObjects a b → KeepsOthers (existence_of place) b d → d.told (values_of place c) ≡ a.told (values_of place c)
+values_kept place c a b d k o = o.told (values_of place c) (λ e. absurd (omega (arith, e))) ∙ k.told (values_of place c)
+
+-- and their plans hold on
+pub plans_from : (place slots : ℕ) (old new : List ColumnPart) (rows : List (List Value)) (a b d : Seen) (plans : List Plan) → KeepsObjects a b → KeepsOthers (existence_of place) b d → ArePlans place slots old new rows a plans → ArePlans place slots old new rows d plans
+plans_from place slots old new rows a b d plans k o are = record {
+  long = are.long;
+  each = λ c plan here. plan_still place slots c (part_at c old) (part_at c new) rows a d plan
+      (codes_kept place c a b d k o) (values_kept place c a b d k o)
+      (o.counts (codes_of place c) (λ e. absurd (omega (arith, e))) ∙ k.counts (codes_of place c))
+      (o.counts (values_of place c) (λ e. absurd (omega (arith, e))) ∙ k.counts (values_of place c)) (are.each c plan here);
+}
+
+-- and they are told where they were
+pub columns_told : (place n : ℕ) (a b d : Seen) → KeepsObjects a b → KeepsOthers (existence_of place) b d → TellsPlace a.told place n → TellsColumns d.told place n
+columns_told place n a b d k o tells = λ c h. (
+  subst IsSome (sym (codes_kept place c a b d k o)) (tells (codes_of place c) (omega arith, omega arith)),
+  subst IsSome (sym (values_kept place c a b d k o)) (tells (values_of place c) (omega arith, omega arith)),
+)
+
+-- a fault that is no bad page finds none after the first page was written
+pub none_first : (a b : Seen) (fault : PageFault) → IsNoBadPage fault → pieces.FindsBadFirst a b fault
+none_first a b (Failed x y) h = tt
+none_first a b (BadPage object page) h = absurd h
+none_first a b NoMemory h = tt
+
+-- so they stand for more than what they stood for before
+pub columns_from : (n place slots slots' : ℕ) (old new : List ColumnPart) (rows : List (List Value)) (a b d : Seen) (after : ℕ → Option Pages) → KeepsObjects a b → KeepsOthers (existence_of place) b d → ColumnsStandForMore n place slots slots' old new rows d.told after → ColumnsStandForMore n place slots slots' old new rows a.told after
+columns_from n place slots slots' old new rows a b d after k o p = λ c h.
+    more_still (fp_of place slots c (part_at c old)) (fp_of place slots' c (part_at c new)) a.told d.told after (column_of c rows) (codes_kept place c a b d k o) (values_kept place c a b d k o) (p c h)
+
+-- and a cause of theirs is one from before
+pub columns_cause : (place slots : ℕ) (parts : List ColumnPart) (a b d f : Seen) (fault : PageFault) → KeepsObjects a b → KeepsOthers (existence_of place) b d → a.faults ≤ d.faults → HasColumnsCause place slots parts d f fault → HasColumnsCause place slots parts a f fault
+columns_cause place slots parts a b d f (Failed x y) k o later h = rose_since _ _ _ _ _ later h
+columns_cause place slots parts a b d f (BadPage object page) k o later h = column_cause place slots h.0 parts a d f (BadPage object page) h.1 (codes_kept place h.0 a b d k o) (values_kept place h.0 a b d k o) later h.2
+columns_cause place slots parts a b d f NoMemory k o later h = tt
+
+-- what existence and columns change
+pub rows_keep : (place n : ℕ) (a b c : Seen) → KeepsOthers (existence_of place) a b → KeepsButColumns place n b c → KeepsButRows place n a c
+rows_keep place n a b c o k = record {
   told = λ object out. elim out [
-    | inl low ↦ o.told object (λ e. absurd (omega (arith, e))) ∙ k.told object (inl (omega arith))
-    | inr high ↦ o.told object (λ e. absurd (omega (arith, e))) ∙ k.told object (inr high)
+    | inl low ↦ k.told object (inl (omega arith)) ∙ o.told object (λ e. absurd (omega (arith, e)))
+    | inr high ↦ k.told object (inr high) ∙ o.told object (λ e. absurd (omega (arith, e)))
   ];
   counts = λ object out. elim out [
-    | inl low ↦ o.counts object (λ e. absurd (omega (arith, e))) ∙ k.counts object (inl (omega arith))
-    | inr high ↦ o.counts object (λ e. absurd (omega (arith, e))) ∙ k.counts object (inr high)
+    | inl low ↦ k.counts object (inl (omega arith)) ∙ o.counts object (λ e. absurd (omega (arith, e)))
+    | inr high ↦ k.counts object (inr high) ∙ o.counts object (λ e. absurd (omega (arith, e)))
   ];
 }
 
-pub columns_alone : (place n : ℕ) (a b : Seen) → KeepsButColumns place n a b → KeepsButRows place n a b
-columns_alone place n a b k = record {
-  told = λ object out. elim out [ inl low ↦ k.told object (inl (omega arith)) | inr high ↦ k.told object (inr high) ];
-  counts = λ object out. elim out [ inl low ↦ k.counts object (inl (omega arith)) | inr high ↦ k.counts object (inr high) ];
+-- existence alone
+pub existence_alone : (place n : ℕ) (a b : Seen) → KeepsOthers (existence_of place) a b → KeepsButRows place n a b
+existence_alone place n a b o = record {
+  told = λ object out. elim out [ inl low ↦ o.told object (λ e. absurd (omega (arith, e))) | inr high ↦ o.told object (λ e. absurd (omega (arith, e))) ];
+  counts = λ object out. elim out [ inl low ↦ o.counts object (λ e. absurd (omega (arith, e))) | inr high ↦ o.counts object (λ e. absurd (omega (arith, e))) ];
 }
+
+-- what is kept where all was before
+pub kept_before : (place n : ℕ) (a b c : Seen) → KeepsObjects a b → KeepsButRows place n b c → KeepsButRows place n a c
+kept_before place n a b c k r = record { told = λ object out. r.told object out ∙ k.told object; counts = λ object out. r.counts object out ∙ k.counts object }
 
 -- an object of another place is outside
 outside : (place n object : ℕ) → n ≤ 32 → object / 256 ≢ place → (object < 256 * place) ⊎ (256 * place + 2 * n < object)

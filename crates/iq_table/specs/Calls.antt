@@ -7,6 +7,7 @@ use Rattle.iq_outside.specs.Faults.{RoseWithin}
 use Rattle.iq_pages.specs.declared.page_faults.PageFault.{PageFault}
 use Rattle.iq_pages.specs.declared.page_faults.PageFault.TheVariants as pages
 use Rattle.iq_pages.specs.Pages.{Pages, Seen}
+use Rattle.iq_pieces.specs.Counts.{WritesNothing}
 use Rattle.iq_chunks.specs.Chunks.{chunks_changed, HasBitsCause}
 use Rattle.iq_base.specs.declared.values.Value.{Value}
 use Rattle.iq_cells.specs.Tables.{column_of}
@@ -15,7 +16,7 @@ use Rattle.iq_fp.specs.Calls as columns
 use Rattle.iq_table.specs.declared.table.Table.{Table}
 use Rattle.iq_table.specs.declared.faults.TableFault.{TableFault}
 use Rattle.iq_table.specs.declared.faults.TableFault.TheVariants as faults
-use Rattle.iq_table.specs.Places.{existence_of, no_ref, new_part, part_at, fp_of, fp_at}
+use Rattle.iq_table.specs.Places.{existence_of, codes_of, values_of, no_ref, new_part, part_at, fp_of, fp_at}
 use Rattle.iq_table.specs.Limits.{limit_of}
 
 -- the descriptor of a table without rows
@@ -37,9 +38,17 @@ pub record KeepsOtherTables (place : ℕ) (before after : Seen) : Type 0 where
 abbrev pub IsObjectOf : ℕ → ℕ → ℕ → Type 0
 IsObjectOf place count object = (256 * place ≤ object) × (object ≤ 256 * place + 2 * count)
 
+-- the pages of existence and of so many columns are told
+abbrev pub TellsPlace : (ℕ → Option Pages) → ℕ → ℕ → Type 0
+TellsPlace told place count = (object : ℕ) → IsObjectOf place count object → IsSome (told object)
+
+-- those of so many columns are
+abbrev pub TellsColumns : (ℕ → Option Pages) → ℕ → ℕ → Type 0
+TellsColumns told place count = (c : ℕ) → c < count → IsSome (told (codes_of place c)) × IsSome (told (values_of place c))
+
 -- the pages of each of a table's objects are told
 abbrev pub TellsObjects : (ℕ → Option Pages) → Table → Type 0
-TellsObjects told table = (object : ℕ) → IsObjectOf table.place (length table.parts.columns) object → IsSome (told object)
+TellsObjects told table = TellsPlace told table.place (length table.parts.columns)
 
 -- why a table's objects aren't made: the store failed, or one of them, which the fault names, isn't told
 abbrev pub HasMakeCause : Table → Seen → Seen → PageFault → Type 0
@@ -147,3 +156,16 @@ abbrev pub HasRowsCause : Table → List ℕ → Seen → Seen → PageFault →
 HasRowsCause table chosen before after (pages.Failed x y) = RoseWithin before.faults x y after.faults
 HasRowsCause table chosen before after (pages.BadPage object page) = (i : ℕ) × (i < length chosen) × columns.HasReadCause (fp_at table.place table.parts (slice_index chosen i)) before after (pages.BadPage object page)
 HasRowsCause table chosen before after pages.NoMemory = ⊤
+
+-- a bad page was found before the first page was written
+abbrev pub FindsBadFirst : Seen → Seen → TableFault → Type 0
+FindsBadFirst before after (faults.Failed x y) = ⊤
+FindsBadFirst before after (faults.BadPage object page) = WritesNothing before after
+FindsBadFirst before after faults.NoMemory = ⊤
+FindsBadFirst before after (faults.TableFull limit) = ⊤
+
+-- the fault is no bad page
+abbrev pub IsNoBadPage : PageFault → Type 0
+IsNoBadPage (pages.Failed x y) = ⊤
+IsNoBadPage (pages.BadPage object page) = ⊥
+IsNoBadPage pages.NoMemory = ⊤

@@ -3,6 +3,7 @@ ghost use Rattle.std.specs.Prelude.{◌≡◌, ◌<◌, ◌≤◌, ◌+◌, ◌*
 ghost use Rattle.iq_pages.specs.PageCalls.{view};
 ghost use Rattle.iq_pages.specs.Pages.{CountsMore};
 ghost use Rattle.iq_pieces.specs.Counts.{CountsUpTo};
+ghost use Rattle.iq_pieces.specs.Faults as pieces;
 ghost use Rattle.iq_table.specs.declared.faults.TableFault.TheVariants.{TableFull};
 ghost use Rattle.iq_base.specs.declared.sizes.TheConstants.{MOST_PAGES};
 ghost use Rattle.iq_bitmap.specs.declared.page_words.TheConstants.{CHUNK_ROWS};
@@ -10,9 +11,9 @@ ghost use Rattle.iq_chunks.specs.Chunks.{AppendsOnes, chunks_changed};
 ghost use Rattle.iq_table.specs.Places.{existence_of, part_at, part_kinds};
 ghost use Rattle.iq_table.specs.Limits.{limit_of, FindsRoom};
 ghost use Rattle.iq_table.specs.Table.{StandsForMore};
-ghost use Rattle.iq_table.specs.Calls.{HasGrown, AreGrown, ColumnsStandForMore, KeepsButRows, KeepsOtherTables, HasWriteCause, HasAppendCause, columns_read, columns_written, columns_most, append_reads, append_writes, append_most};
+ghost use Rattle.iq_table.specs.Calls.{HasGrown, AreGrown, ColumnsStandForMore, KeepsButRows, KeepsOtherTables, TellsPlace, TellsObjects, FindsBadFirst, HasWriteCause, HasAppendCause, columns_read, columns_written, columns_most, append_reads, append_writes, append_most};
 
-use crate::columns::append_columns;
+use crate::columns::{plan_columns, write_columns};
 use crate::faults::TableFault;
 use crate::limits::limit_of;
 use crate::places::existence_of;
@@ -25,9 +26,10 @@ use std::alloc::Global;
 
 impl Table {
     /// Puts rows behind those of the table; NULL may stand among them in any column. The form of each column is decided from all its
-    /// new values before the first page of it is written, columns come one after the other, and each page that changes is written
-    /// once. `TableFull` comes before anything is touched. After any other `Err` the table's value is as before, but pages of its
-    /// objects may be written. Without rows nothing is touched.
+    /// new values, and each page that the append needs is read, before the first page is written; each page that changes is written
+    /// once. `TableFull` comes before anything is touched, and a bad page of a told object before anything is written. After any other
+    /// `Err` the table's value is as before, but pages of its objects may be written. Without rows nothing is touched. Beside the
+    /// rows it takes 4 bytes a row and column, the new distinct values, and for one column at a time an index of its distinct values.
     pub fn append_rows<S: PageSink>(
         &mut self,
         alloc: Global,
@@ -49,6 +51,7 @@ impl Table {
         ensures reads { CountsUpTo (append_reads self.old) (S.reads sink.old) (S.reads sink.new) }
         ensures written { OnOk result (CountsMore (append_writes self.old self.new (length rows.now.rows)) (S.writes sink.old) (S.writes sink.new)) }
         ensures unwritten { CountsUpTo (append_most self.old (length rows.now.rows)) (S.writes sink.old) (S.writes sink.new) }
+        ensures bad_first { TellsObjects (S.told sink.old) self.old → IfErr result (FindsBadFirst (view S.PageSource sink.old) (view S.PageSource sink.new)) }
         ensures later { S.faults sink.old ≤ S.faults sink.new }
         ensures cause { IfErr result (HasAppendCause self.old (length rows.now.rows) (view S.PageSource sink.old) (view S.PageSource sink.new)) }
     {
@@ -75,7 +78,8 @@ impl Table {
     }
 }
 
-/// Writes what an append changes of the objects of a table, and gives its columns as they are then.
+/// Writes what an append changes of the objects of a table, and gives its columns as they are then. First the columns are planned,
+/// which reads their pages; then existence is written, whose last page is read before; and last the columns, which reads nothing.
 fn write_rows<S: PageSink>(
     alloc: Global,
     sink: &mut S,
@@ -96,10 +100,11 @@ fn write_rows<S: PageSink>(
     ensures reads { CountsUpTo (columns_read slots parts.now + 1) (S.reads sink.old) (S.reads sink.new) }
     ensures written { IfOk result (λ grown. CountsMore (columns_written slots (slots + length rows.now.rows) parts.now grown.items + chunks_changed slots (length rows.now.rows)) (S.writes sink.old) (S.writes sink.new)) }
     ensures unwritten { CountsUpTo (columns_most slots (length rows.now.rows) parts.now + chunks_changed slots (length rows.now.rows)) (S.writes sink.old) (S.writes sink.new) }
+    ensures bad_first { TellsPlace (S.told sink.old) place (length parts.now) → IfErr result (pieces.FindsBadFirst (view S.PageSource sink.old) (view S.PageSource sink.new)) }
     ensures later { S.faults sink.old ≤ S.faults sink.new }
     ensures cause { IfErr result (HasWriteCause place slots parts.now (view S.PageSource sink.old) (view S.PageSource sink.new)) }
 {
-    let columns = append_columns(alloc, sink, place, slots, parts, rows)?;
+    let planned = plan_columns(alloc, sink, place, slots, parts, rows)?;
     append_ones(alloc, sink, existence_of(place), slots, rows.len() as u32)?;
-    Ok(columns)
+    write_columns(sink, place, slots, parts, rows, planned)
 }

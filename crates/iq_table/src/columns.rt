@@ -1,72 +1,79 @@
-//! The columns of a table, one after the other.
+//! The columns of a table, each planned before the first is written.
 ghost use Rattle.std.specs.Prelude.{◌≡◌, ◌≢◌, ◌<◌, ◌≤◌, ◌+◌, ℕ, length, OnOk, OnErr, IfOk, IfErr};
 ghost use Rattle.iq_pages.specs.PageCalls.{view};
 ghost use Rattle.iq_pages.specs.Pages.{CountsMore};
-ghost use Rattle.iq_pieces.specs.Counts.{CountsUpTo};
+ghost use Rattle.iq_pieces.specs.Counts.{CountsUpTo, OnlyReads};
+ghost use Rattle.iq_base.specs.Cells.{width};
 ghost use Rattle.iq_fp.specs.Forms.{code_width};
 ghost use Rattle.iq_fp.specs.Calls as fps;
+ghost use Rattle.iq_fp.specs.Plans.{IsPlanFor, IsReached};
 ghost use Rattle.iq_table.specs.Places.{part_at, part_kinds};
 ghost use Rattle.iq_table.specs.Limits.{FindsRoom};
-ghost use Rattle.iq_table.specs.Calls.{AreGrown, ColumnsStandForMore, KeepsButColumns, HasColumnsCause, columns_read, columns_written, columns_most};
+ghost use Rattle.iq_table.specs.Calls.{AreGrown, ColumnsStandForMore, KeepsButColumns, TellsColumns, IsNoBadPage, HasColumnsCause, columns_read, columns_written, columns_most};
+ghost use Rattle.iq_table.specs.Plans.{ArePlans};
 
 use crate::places::fp_of;
+use crate::table::cells_fit_pages;
 use iq_base::{ColumnPart, PAGE_BYTES, width};
 use iq_cells::{Cells, Rows};
-use iq_fp::{Fp, code_bytes};
-use iq_pages::{PageFault, PageSink};
+use iq_fp::{Fp, Plan, code_bytes};
+use iq_pages::{PageFault, PageSink, PageSource};
 use std::alloc::Global;
 
-/// Puts the values of rows behind those of all columns, and gives the columns as they are then.
-pub(crate) fn append_columns<S: PageSink>(
+/// What an append writes of each column, and the columns as they are then.
+#[derive(Drop)]
+pub(crate) struct PlannedColumns {
+    pub plans: Vec<Plan>,
+    pub grown: Vec<ColumnPart>,
+}
+
+/// Plans for all columns what putting the values of rows behind theirs writes. It only reads. The index of a column's values is let go
+/// before the next column is planned; a plan keeps 4 bytes a row, and its new distinct values.
+pub(crate) fn plan_columns<S: PageSource>(
     alloc: Global,
-    sink: &mut S,
+    source: &mut S,
     place: u32,
     slots: u32,
     parts: &[ColumnPart],
     rows: &Rows,
-) -> Result<Vec<ColumnPart>, PageFault>
+) -> Result<PlannedColumns, PageFault>
     requires place { place < 64 }
     requires few { length parts.now ≤ 32 }
     requires kinds { rows.now.kinds ≡ part_kinds parts.now }
     requires room { (c : ℕ) → c < length parts.now → FindsRoom (part_at c parts.now).kind (slots + length rows.now.rows) }
-    ensures grown { IfOk result (λ grown. AreGrown (length rows.now.rows) parts.now grown.items) }
-    ensures ok { IfOk result (λ grown. ColumnsStandForMore (length parts.now) place slots (slots + length rows.now.rows) parts.now grown.items rows.now.rows (S.told sink.old) (S.told sink.new)) }
-    ensures others { KeepsButColumns place (length parts.now) (view S.PageSource sink.old) (view S.PageSource sink.new) }
-    ensures reads { CountsUpTo (columns_read slots parts.now) (S.reads sink.old) (S.reads sink.new) }
-    ensures written { IfOk result (λ grown. CountsMore (columns_written slots (slots + length rows.now.rows) parts.now grown.items) (S.writes sink.old) (S.writes sink.new)) }
-    ensures unwritten { CountsUpTo (columns_most slots (length rows.now.rows) parts.now) (S.writes sink.old) (S.writes sink.new) }
-    ensures later { S.faults sink.old ≤ S.faults sink.new }
-    ensures cause { IfErr result (HasColumnsCause place slots parts.now (view S.PageSource sink.old) (view S.PageSource sink.new)) }
+    ensures grown { IfOk result (λ p. AreGrown (length rows.now.rows) parts.now p.grown.items) }
+    ensures plans { IfOk result (λ p. ArePlans place slots parts.now p.grown.items rows.now.rows (view S.PageSource source.old) p.plans.items) }
+    ensures reads { OnlyReads (columns_read slots parts.now) (view S.PageSource source.old) (view S.PageSource source.new) }
+    ensures cause { IfErr result (HasColumnsCause place slots parts.now (view S.PageSource source.old) (view S.PageSource source.new)) }
 {
     let width = rows.width();
+    let mut plans = Vec::with_capacity(alloc, width)?;
     let mut grown = Vec::with_capacity(alloc, width)?;
     for c in 0..parts.len() {
-        let mut fp = fp_of(place, slots, c, &parts[c]);
-        append_column(alloc, sink, &mut fp, rows.column(c))?;
-        grown.push(with_distinct(&parts[c], fp.distinct))?;
+        let fp = fp_of(place, slots, c, &parts[c]);
+        let plan = plan_column(alloc, source, &fp, rows.column(c))?;
+        grown.push(with_distinct(&parts[c], plan.grown.distinct))?;
+        plans.push(plan)?;
     }
-    Ok(grown)
+    Ok(PlannedColumns { plans, grown })
 }
 
-/// Puts values behind those of a column. A column of more distinct values than rows stands for nothing.
-fn append_column<S: PageSink>(
+/// Plans what putting values behind those of a column writes. A column of more distinct values than rows stands for nothing.
+fn plan_column<S: PageSource>(
     alloc: Global,
-    sink: &mut S,
-    fp: &mut Fp,
+    source: &mut S,
+    fp: &Fp,
     cells: &Cells,
-) -> Result<(), PageFault>
-    requires kind { cells.now.kind ≡ fp.old.kind }
-    requires apart { fp.old.codes ≢ fp.old.values }
-    requires room { FindsRoom fp.old.kind (fp.old.slots + length cells.now.values) }
-    ensures ok { OnOk result (fps.StandsForMore fp.old fp.new cells.now.values (S.told sink.old) (S.told sink.new)) }
-    ensures same { fps.SameObjects fp.old fp.new }
-    ensures longer { OnOk result (fps.IsLonger fp.old fp.new (length cells.now.values)) }
-    ensures others { fps.KeepsOtherObjects fp.old (view S.PageSource sink.old) (view S.PageSource sink.new) }
-    ensures reads { CountsUpTo (fps.pages_read fp.old) (S.reads sink.old) (S.reads sink.new) }
-    ensures written { OnOk result (CountsMore (fps.pages_written fp.old fp.new) (S.writes sink.old) (S.writes sink.new)) }
-    ensures unwritten { CountsUpTo (fps.most_written fp.old (length cells.now.values)) (S.writes sink.old) (S.writes sink.new) }
-    ensures later { S.faults sink.old ≤ S.faults sink.new }
-    ensures cause { IfErr result (fps.HasAppendCause fp.old (view S.PageSource sink.old) (view S.PageSource sink.new)) }
+) -> Result<Plan, PageFault>
+    requires kind { cells.now.kind ≡ fp.now.kind }
+    requires apart { fp.now.codes ≢ fp.now.values }
+    requires room { FindsRoom fp.now.kind (fp.now.slots + length cells.now.values) }
+    ensures column { IfOk result (λ plan. plan.column ≡ fp.now) }
+    ensures longer { IfOk result (λ plan. fps.IsLonger fp.now plan.grown (length cells.now.values)) }
+    ensures made_for { IfOk result (λ plan. IsPlanFor (S.told source.old) cells.now.values plan) }
+    ensures reached { IfOk result (λ plan. IsReached (S.counts source.old) plan) }
+    ensures reads { OnlyReads (fps.pages_read fp.now) (view S.PageSource source.old) (view S.PageSource source.new) }
+    ensures cause { IfErr result (fps.HasPlanCause fp.now (view S.PageSource source.old) (view S.PageSource source.new)) }
 {
     if fp.distinct > fp.slots {
         let page = fp.slots / (PAGE_BYTES / width(fp.kind)) as u32;
@@ -75,7 +82,37 @@ fn append_column<S: PageSink>(
             page,
         });
     }
-    fp.append(alloc, sink, cells)
+    fp.plan(alloc, source, cells)
+}
+
+/// Writes what was planned for all columns, and reads nothing. Each plan is let go once it is written.
+pub(crate) fn write_columns<S: PageSink>(
+    sink: &mut S,
+    place: u32,
+    slots: u32,
+    parts: &[ColumnPart],
+    rows: &Rows,
+    planned: PlannedColumns,
+) -> Result<Vec<ColumnPart>, PageFault>
+    requires plans { ArePlans place slots parts.now planned.grown.items rows.now.rows (view S.PageSource sink.old) planned.plans.items }
+    requires grown { AreGrown (length rows.now.rows) parts.now planned.grown.items }
+    ensures grown { IfOk result (λ grown. grown.items ≡ planned.grown.items) }
+    ensures ok { OnOk result (ColumnsStandForMore (length parts.now) place slots (slots + length rows.now.rows) parts.now planned.grown.items rows.now.rows (S.told sink.old) (S.told sink.new)) }
+    ensures others { KeepsButColumns place (length parts.now) (view S.PageSource sink.old) (view S.PageSource sink.new) }
+    ensures reads { S.reads sink.new ≡ S.reads sink.old }
+    ensures written { OnOk result (CountsMore (columns_written slots (slots + length rows.now.rows) parts.now planned.grown.items) (S.writes sink.old) (S.writes sink.new)) }
+    ensures unwritten { CountsUpTo (columns_most slots (length rows.now.rows) parts.now) (S.writes sink.old) (S.writes sink.new) }
+    ensures later { S.faults sink.old ≤ S.faults sink.new }
+    ensures told { TellsColumns (S.told sink.old) place (length parts.now) → IfErr result IsNoBadPage }
+    ensures cause { IfErr result (HasColumnsCause place slots parts.now (view S.PageSource sink.old) (view S.PageSource sink.new)) }
+{
+    cells_fit_pages(parts);
+    let PlannedColumns { plans, grown } = planned;
+    let _of = (place, slots, rows.len());
+    for plan in plans {
+        plan.carry_out(sink)?;
+    }
+    Ok(grown)
 }
 
 /// A column with so many distinct values, in the form that they need.

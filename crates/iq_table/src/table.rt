@@ -113,7 +113,7 @@ fn new_part(column: &Column) -> ColumnPart
 }
 
 /// Nothing: no cell is longer than a page, which each kind tells.
-fn cells_fit_pages(parts: &[ColumnPart])
+pub(crate) fn cells_fit_pages(parts: &[ColumnPart])
     ensures { (c : ℕ) → c < length parts.now → (1 ≤ width (part_at c parts.now).kind) × (width (part_at c parts.now).kind ≤ 257) }
 {
     for part in parts {

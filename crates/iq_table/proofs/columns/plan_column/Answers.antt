@@ -4,7 +4,7 @@ use Rattle.iq_base.specs.Cells.{width}
 use Rattle.iq_pieces.specs.Counts.{per_page, pages_for}
 use Rattle.iq_fp.proofs.Chosen.{page_within}
 use Rattle.iq_table.proofs.Moves.{none_of_more}
-use Rattle.iq_table.proofs.columns.append_column.Goals as goal
+use Rattle.iq_table.proofs.columns.plan_column.Goals as goal
 
 pub returns-then-fp-clause-cause : goal.returns-then-fp-clause-cause
 returns-then-fp-clause-cause g c =

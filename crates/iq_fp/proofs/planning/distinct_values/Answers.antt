@@ -5,7 +5,7 @@ use Rattle.iq_base.specs.Cells.{width}
 use Rattle.iq_pieces.specs.Counts.{per_page, pages_for}
 use Rattle.iq_fp.proofs.Chosen.{page_within}
 use Rattle.iq_fp.proofs.Growth.{none_stands}
-use Rattle.iq_fp.proofs.appending.distinct_values.Goals as goal
+use Rattle.iq_fp.proofs.planning.distinct_values.Goals as goal
 
 pub overflow_cast-page : goal.overflow_cast-page
 overflow_cast-page g c =
