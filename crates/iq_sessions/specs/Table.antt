@@ -1,0 +1,79 @@
+-- The sessions of a run with the names that they hold, as contracts see them, and what their calls leave.
+use Rattle.std.specs.Prelude.{◌≡◌, ◌≤◌, ◌<◌, ◌^◌, ⊤, ℕ, ◌+◌, List, [], ◌∷◌, ◌++◌, replicate, slice_set, slice_index_or, sum, map, length, filter, if◌then◌else◌}
+use Rattle.iq_base.specs.Shorts.{Name}
+use Rattle.iq_base.specs.declared.nodes.SessionSpec.{SessionSpec}
+use Rattle.iq_model.specs.declared.scripts.Line.{Line}
+use Rattle.iq_model.specs.declared.scripts.Script.{Script}
+use Rattle.iq_locks.specs.Locked.{Written, LockState, latest_of, has_name}
+use Rattle.iq_replay.specs.State.{Session, Standing, idle, lost, running, changed_at}
+use Rattle.iq_replay.specs.Start.{is_of, sessions_from}
+use Rattle.iq_replay.specs.Commits.{written_names}
+use Rattle.iq_replay.specs.Changes.{work_in}
+use Rattle.iq_sessions.specs.Kept.{KeptSession, sessions_of, HoldsFit}
+
+-- the sessions without tables and answers; the latest commits of names; and for how many names each session's commit has room
+pub record TableState : Type 0 where
+  pub sessions : List Session
+  pub wrote : List Written
+  pub noted : List ℕ
+
+-- WHAT IT IS KEPT AS
+
+abbrev pub noted_of : List KeptSession → List ℕ
+noted_of sessions = map (λ (kept : KeptSession). kept.noted) sessions
+
+abbrev pub table_of : List KeptSession → LockState → TableState
+table_of sessions locks = record { sessions = sessions_of sessions locks.held; wrote = locks.wrote; noted = noted_of sessions }
+
+abbrev pub AllFit : List KeptSession → List (List Name) → Type 0
+AllFit [] [] = ⊤
+AllFit [] (names ∷ held) = ⊥
+AllFit (kept ∷ sessions) [] = ⊥
+AllFit (kept ∷ sessions) (names ∷ held) = HoldsFit kept.transaction names × AllFit sessions held
+
+-- each session fits the names that it holds, and there is room for all names that commits may write
+pub record IsTable (sessions : List KeptSession) (locks : LockState) (noted : ℕ) : Type 0 where
+  pub fit : AllFit sessions locks.held
+  pub total : noted ≡ sum (noted_of sessions)
+  pub room : noted ≤ locks.room
+  pub few : length sessions < 2 ^ 32
+
+-- WHERE IT STARTS
+
+-- each session is declared with the number of its lines
+abbrev pub AreCounted : ℕ → List Line → List SessionSpec → Type 0
+AreCounted place lines [] = ⊤
+AreCounted place lines (spec ∷ specs) = (spec.lines ≡ length (filter (is_of place) lines)) × AreCounted (place + 1) lines specs
+
+pub record IsFresh (script : Script) (new : TableState) : Type 0 where
+  pub sessions : new.sessions ≡ sessions_from 0 script.lines script.sessions
+  pub wrote : new.wrote ≡ []
+  pub noted : new.noted ≡ replicate (length script.sessions) 0
+
+-- WHAT ITS CALLS LEAVE
+
+-- one session is changed
+abbrev pub with_at : ℕ → (Session → Session) → TableState → TableState
+with_at place f table = record table { sessions = changed_at place f table.sessions }
+
+-- one session's transaction is over, and needs no room
+abbrev pub with_over : ℕ → (Session → Session) → TableState → TableState
+with_over place f table = record table { sessions = changed_at place f table.sessions; noted = slice_set table.noted place 0 }
+
+abbrev pub noted_at : ℕ → List ℕ → ℕ
+noted_at place noted = slice_index_or noted place 0
+
+-- how many names a session's commit writes
+abbrev pub writes_of : Session → ℕ
+writes_of session = length (written_names (work_in session.standing))
+
+-- a commit is the last that wrote these names; the latest commits of others stay
+abbrev pub WritesAll : List Name → ℕ → List Written → List Written → Type 0
+WritesAll names c old new = (n : Name) → latest_of n new ≡ (if has_name names n then c else latest_of n old)
+
+-- WHAT THEY ASK
+
+-- a session without a transaction, with a line
+pub record AsksBegin (session : Session) : Type 0 where
+  pub none : session.standing ≡ idle
+  pub line : 0 < length session.left
