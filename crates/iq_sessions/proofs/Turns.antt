@@ -2,14 +2,16 @@
 use Rattle.std.specs.Prelude.{◌≡◌, ◌≤◌, ◌<◌, ◌^◌, refl, ⊤, ℕ, zero, suc, ◌+◌, List, [], ◌∷◌, Some, map, length, sum, slice_set, slice_index_or, IsSomeAnd}
 use Rattle.std.specs.List.{slice_get}
 use Rattle.std.proofs.Common.{arith, ap, sym, ◌∙◌}
+use Rattle.std.proofs.lemmas.List.{length-map}
 use Rattle.iq_base.specs.Shorts.{Name}
 use Rattle.iq_locks.specs.Locked.{LockState, held_at, holding}
-use Rattle.iq_replay.specs.State.{Session, Standing, changed_at, held_by}
+use Rattle.iq_replay.specs.Changes.{ends_run}
+use Rattle.iq_replay.specs.State.{Session, Standing, idle, changed_at, held_by}
 use Rattle.iq_sessions.specs.declared.session.TransactionState.{TransactionState}
 use Rattle.iq_sessions.specs.declared.session.TransactionState.TheVariants as transactions
 use Rattle.iq_sessions.specs.Bare.{At}
-use Rattle.iq_sessions.specs.Kept.{KeptSession, session_of, standing_of, sessions_of, HoldsFit, Turns, IsKeptAs}
-use Rattle.iq_sessions.specs.Table.{TableState, IsTable, AllFit, noted_of, table_of, with_at}
+use Rattle.iq_sessions.specs.Kept.{KeptSession, session_of, standing_of, save_of, sessions_of, HoldsFit, HasFewSaves, idled, Turns, IsKeptAs}
+use Rattle.iq_sessions.specs.Table.{TableState, IsTable, AllFit, HasSaveRoom, noted_of, table_of, with_at}
 
 -- LISTS
 
@@ -63,6 +65,27 @@ at_within [] n P p = absurd p
 at_within (s ∷ sessions) zero P p = omega arith
 at_within (s ∷ sessions) (suc n) P p = omega (arith, at_within sessions n P p)
 
+pub within_kept : (sessions : List KeptSession) (held : List (List Name)) (n : ℕ) (P : Session → Type 0) → At n (sessions_of sessions held) P → n < length sessions
+within_kept sessions held n P p = rw (as_many sessions held) at (at_within (sessions_of sessions held) n P p)
+
+pub within_held : (sessions : List KeptSession) (held : List (List Name)) (n : ℕ) → AllFit sessions held → n < length (sessions_of sessions held) → n < length held
+within_held sessions held n fit h = rw (as_many_held sessions held fit, ← as_many sessions held) h
+
+-- fewer savepoints stand than can
+pub save_room : (transaction : TransactionState) (names : List Name) → HasSaveRoom (standing_of transaction names) → HasFewSaves transaction
+save_room transactions.Idle names few = tt
+save_room transactions.Lost names few = tt
+save_room (transactions.Running t) names few = omega (arith, few, length-map t.saves save_of)
+
+-- a transaction that ends leaves none
+pub idle_turns : (x y : KeptSession) (names : List Name) → y ≡ idled x → Turns x names ends_run y [] x.noted
+idle_turns x y names q = rw q (record { session = refl; fits = refl; noted_is = refl })
+
+pub no_names : (transaction : TransactionState) (names : List Name) → standing_of transaction names ≡ idle → HoldsFit transaction names → names ≡ []
+no_names transactions.Idle names q fit = fit
+no_names transactions.Lost names q fit = cc q
+no_names (transactions.Running t) names q fit = cc q
+
 held_by-kept : (transaction : TransactionState) (names : List Name) → HoldsFit transaction names → held_by (standing_of transaction names) ≡ names
 held_by-kept transactions.Idle names fit = sym fit
 held_by-kept transactions.Lost names fit = sym fit
@@ -70,6 +93,13 @@ held_by-kept (transactions.Running t) names fit = refl
 
 pub kept_as : (x : KeptSession) (names : List Name) → HoldsFit x.transaction names → IsKeptAs x (session_of x names)
 kept_as x names fit = let same = held_by-kept x.transaction names fit in record { is = rw same refl; fits = rw same fit }
+
+pub held_made : (sessions : List KeptSession) (held : List (List Name)) (n : ℕ) → AllFit sessions held → n < length (sessions_of sessions held) → At n (sessions_of sessions held) (λ session. held_at n held ≡ held_by session.standing)
+held_made [] [] n fit h = absurd (omega (arith, h))
+held_made [] (names ∷ held) n fit h = absurd fit
+held_made (k ∷ sessions) [] n fit h = absurd fit
+held_made (k ∷ sessions) (names ∷ held) zero fit h = sym (held_by-kept k.transaction names fit.0)
+held_made (k ∷ sessions) (names ∷ held) (suc n) fit h = held_made sessions held n fit.1 (omega (arith, h))
 
 -- ONE IS CHANGED
 

@@ -6,6 +6,7 @@ use Rattle.iq_model.specs.declared.scripts.Line.{Line}
 use Rattle.iq_model.specs.declared.scripts.Script.{Script}
 use Rattle.iq_locks.specs.Locked.{Written, LockState, latest_of, has_name}
 use Rattle.iq_replay.specs.State.{Session, Standing, idle, lost, running, changed_at}
+use Rattle.iq_replay.specs.Asked.{IsOpen}
 use Rattle.iq_replay.specs.Start.{is_of, sessions_from}
 use Rattle.iq_replay.specs.Commits.{written_names}
 use Rattle.iq_replay.specs.Changes.{work_in}
@@ -77,3 +78,23 @@ WritesAll names c old new = (n : Name) → latest_of n new ≡ (if has_name name
 pub record AsksBegin (session : Session) : Type 0 where
   pub none : session.standing ≡ idle
   pub line : 0 < length session.left
+
+-- a session with a line
+abbrev pub HasLine : Session → Type 0
+HasLine session = 0 < length session.left
+
+-- a session with a line before its effect
+pub record AsksOpen (session : Session) : Type 0 where
+  pub open_still : IsOpen session.stage
+  pub line : 0 < length session.left
+
+-- fewer savepoints stand than can
+abbrev pub HasSaveRoom : Standing → Type 0
+HasSaveRoom idle = ⊤
+HasSaveRoom lost = ⊤
+HasSaveRoom (running run) = length run.saves < 16
+
+pub record AsksSave (session : Session) : Type 0 where
+  pub open_still : IsOpen session.stage
+  pub line : 0 < length session.left
+  pub few : HasSaveRoom session.standing

@@ -144,6 +144,14 @@ impl Session {
         self.noted = n;
     }
 
+    /// A line before its effect has created nothing.
+    fn has_not_created(&self)
+        requires { IsOpen (stage_of self.now.stage) }
+        ensures { HasNotCreated self.now.transaction }
+    {
+        let _ = &self.stage;
+    }
+
     /// The line ends, and the next is under way.
     #[tactic(auto, using(crate::proofs::Left::drop_more))]
     fn end_line(&mut self)
@@ -176,21 +184,23 @@ impl Session {
 
     /// Its transaction holds names more.
     pub(crate) fn lock(&mut self)
-        requires clear { HasNotCreated self.old.transaction }
+        requires open_still { IsOpen (stage_of self.old.stage) }
         requires running { runs_now self.old.transaction ≡ true }
         ensures { (names more : List Name) → HoldsFit self.old.transaction names
             → Turns self.old names (locks_more more) self.new (names ++ more) self.old.noted }
     {
+        self.has_not_created();
         self.stage = LineStage::Locked;
     }
 
     /// The statement of its line took effect, while it held so many names, and created a table or none.
     pub(crate) fn take(&mut self, held: usize, created: Option<Name>)
         requires some { 0 < length self.old.left }
-        requires clear { HasNotCreated self.old.transaction }
+        requires open_still { IsOpen (stage_of self.old.stage) }
         ensures { (names : List Name) → HoldsFit self.old.transaction names → length names ≡ held
             → Turns self.old names (takes (table_locks created)) self.new names self.old.noted }
     {
+        self.has_not_created();
         if let TransactionState::Running(transaction) = &mut self.transaction {
             if transaction.own {
                 transaction.created = created;
@@ -232,11 +242,12 @@ impl Session {
     /// A savepoint is kept.
     pub(crate) fn save(&mut self, name: &Name)
         requires some { 0 < length self.old.left }
-        requires clear { HasNotCreated self.old.transaction }
+        requires open_still { IsOpen (stage_of self.old.stage) }
         requires few { HasFewSaves self.old.transaction }
         ensures { (names : List Name) → HoldsFit self.old.transaction names
             → Turns self.old names (saves name.now) self.new names self.old.noted }
     {
+        self.has_not_created();
         if let TransactionState::Running(transaction) = &mut self.transaction {
             transaction.saves.push(name);
         }
@@ -247,10 +258,11 @@ impl Session {
     #[tactic(auto, using(crate::proofs::Saves::saves_from_names))]
     pub(crate) fn go_back(&mut self, held: usize, name: &Name)
         requires some { 0 < length self.old.left }
-        requires clear { HasNotCreated self.old.transaction }
+        requires open_still { IsOpen (stage_of self.old.stage) }
         ensures { (names : List Name) → HoldsFit self.old.transaction names → length names ≡ held
             → Turns self.old names (goes_back name.now) self.new names self.old.noted }
     {
+        self.has_not_created();
         if let TransactionState::Running(transaction) = &mut self.transaction {
             transaction.saves.keep_from(name);
             transaction.kept = held;
@@ -264,10 +276,11 @@ impl Session {
     #[tactic(auto, using(crate::proofs::Saves::released_names))]
     pub(crate) fn release(&mut self, name: &Name)
         requires some { 0 < length self.old.left }
-        requires clear { HasNotCreated self.old.transaction }
+        requires open_still { IsOpen (stage_of self.old.stage) }
         ensures { (names : List Name) → HoldsFit self.old.transaction names
             → Turns self.old names (releases name.now) self.new names self.old.noted }
     {
+        self.has_not_created();
         if let TransactionState::Running(transaction) = &mut self.transaction {
             transaction.saves.keep_from(name);
             transaction.saves.drop_newest();
