@@ -1,3 +1,5 @@
 pub mod Saves
 pub mod Left
 pub mod Turns
+pub mod Refused
+pub mod Commits

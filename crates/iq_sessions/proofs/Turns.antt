@@ -1,17 +1,18 @@
 -- One session of the table is changed.
-use Rattle.std.specs.Prelude.{◌≡◌, ◌≤◌, ◌<◌, ◌^◌, refl, ⊤, ℕ, zero, suc, ◌+◌, List, [], ◌∷◌, Some, map, length, sum, slice_set, slice_index_or, IsSomeAnd}
+use Rattle.std.specs.Prelude.{◌≡◌, ◌≤◌, ◌<◌, ◌^◌, refl, ⊤, true, ℕ, zero, suc, ◌+◌, List, [], ◌∷◌, Some, map, length, sum, slice_set, slice_index_or, IsSomeAnd}
 use Rattle.std.specs.List.{slice_get}
 use Rattle.std.proofs.Common.{arith, ap, sym, ◌∙◌}
 use Rattle.std.proofs.lemmas.List.{length-map}
 use Rattle.iq_base.specs.Shorts.{Name}
 use Rattle.iq_locks.specs.Locked.{LockState, held_at, holding}
+use Rattle.iq_replay.specs.Asked.{IsRunning}
 use Rattle.iq_replay.specs.Changes.{ends_run}
-use Rattle.iq_replay.specs.State.{Session, Standing, idle, changed_at, held_by}
+use Rattle.iq_replay.specs.State.{Session, Standing, Run, idle, not_held, changed_at, held_by}
 use Rattle.iq_sessions.specs.declared.session.TransactionState.{TransactionState}
 use Rattle.iq_sessions.specs.declared.session.TransactionState.TheVariants as transactions
 use Rattle.iq_sessions.specs.Bare.{At}
-use Rattle.iq_sessions.specs.Kept.{KeptSession, session_of, standing_of, save_of, sessions_of, HoldsFit, HasFewSaves, idled, Turns, IsKeptAs}
-use Rattle.iq_sessions.specs.Table.{TableState, IsTable, AllFit, HasSaveRoom, noted_of, table_of, with_at}
+use Rattle.iq_sessions.specs.Kept.{KeptSession, session_of, standing_of, save_of, sessions_of, HoldsFit, HasFewSaves, idled, runs_now, Turns, IsKeptAs}
+use Rattle.iq_sessions.specs.Table.{TableState, IsTable, AllFit, HasSaveRoom, CanHoldMore, AsksLock, noted_of, table_of, with_at}
 
 -- LISTS
 
@@ -86,7 +87,7 @@ no_names transactions.Idle names q fit = fit
 no_names transactions.Lost names q fit = cc q
 no_names (transactions.Running t) names q fit = cc q
 
-held_by-kept : (transaction : TransactionState) (names : List Name) → HoldsFit transaction names → held_by (standing_of transaction names) ≡ names
+pub held_by-kept : (transaction : TransactionState) (names : List Name) → HoldsFit transaction names → held_by (standing_of transaction names) ≡ names
 held_by-kept transactions.Idle names fit = sym fit
 held_by-kept transactions.Lost names fit = sym fit
 held_by-kept (transactions.Running t) names fit = refl
@@ -101,9 +102,19 @@ held_made (k ∷ sessions) [] n fit h = absurd fit
 held_made (k ∷ sessions) (names ∷ held) zero fit h = sym (held_by-kept k.transaction names fit.0)
 held_made (k ∷ sessions) (names ∷ held) (suc n) fit h = held_made sessions held n fit.1 (omega (arith, h))
 
+pub at_map : (n : ℕ) (sessions : List Session) (P Q : Session → Type 0) → At n sessions P → ((session : Session) → P session → Q session) → At n sessions Q
+at_map n [] P Q p more = p
+at_map zero (session ∷ sessions) P Q p more = more session p
+at_map (suc n) (session ∷ sessions) P Q p more = at_map n sessions P Q p more
+
+-- what holds of the names that are held holds of those of the session
+pub at_held : (sessions : List KeptSession) (held : List (List Name)) (n : ℕ) (P : List Name → Type 0) → AllFit sessions held → n < length (sessions_of sessions held) → P (held_at n held)
+    → At n (sessions_of sessions held) (λ session. P (held_by session.standing))
+at_held sessions held n P fit h p = at_map n (sessions_of sessions held) (λ session. held_at n held ≡ held_by session.standing) (λ session. P (held_by session.standing)) (held_made sessions held n fit h) (λ session same. rw (← same) p)
+
 -- ONE IS CHANGED
 
-turned_sessions : (sessions : List KeptSession) (held : List (List Name)) (n : ℕ) (f : Session → Session) (x y : KeptSession) (after : List Name) → AllFit sessions held → n < length sessions
+pub turned_sessions : (sessions : List KeptSession) (held : List (List Name)) (n : ℕ) (f : Session → Session) (x y : KeptSession) (after : List Name) → AllFit sessions held → n < length sessions
     → x ≡ slice_index_or sessions n x → session_of y after ≡ f (session_of x (held_at n held)) → sessions_of (slice_set sessions n y) (slice_set held n after) ≡ changed_at n f (sessions_of sessions held)
 turned_sessions [] [] n f x y after fit h is q = absurd (omega (arith, h))
 turned_sessions [] (names ∷ held) n f x y after fit h is q = absurd fit
@@ -111,7 +122,7 @@ turned_sessions (k ∷ sessions) [] n f x y after fit h is q = absurd fit
 turned_sessions (k ∷ sessions) (names ∷ held) zero f x y after fit h is q = rw (q, is) refl
 turned_sessions (k ∷ sessions) (names ∷ held) (suc n) f x y after fit h is q = ap (λ ss. session_of k names ∷ ss) (turned_sessions sessions held n f x y after fit.1 (omega (arith, h)) is q)
 
-turned_fit : (sessions : List KeptSession) (held : List (List Name)) (n : ℕ) (y : KeptSession) (after : List Name) → AllFit sessions held → HoldsFit y.transaction after → AllFit (slice_set sessions n y) (slice_set held n after)
+pub turned_fit : (sessions : List KeptSession) (held : List (List Name)) (n : ℕ) (y : KeptSession) (after : List Name) → AllFit sessions held → HoldsFit y.transaction after → AllFit (slice_set sessions n y) (slice_set held n after)
 turned_fit [] [] n y after fit q = tt
 turned_fit [] (names ∷ held) n y after fit q = absurd fit
 turned_fit (k ∷ sessions) [] n y after fit q = absurd fit
@@ -153,3 +164,23 @@ pub turned_alone : (sessions : List KeptSession) (locks : LockState) (noted n : 
     → x ≡ slice_index_or sessions n x → Turns x (held_at n locks.held) f y (held_at n locks.held) x.noted → IsTurned sessions locks noted n f (slice_set sessions n y) locks
 turned_alone sessions locks noted n f x y table h is turns =
     rw (ap (λ (held : List (List Name)). record locks { held = held }) (set_same locks.held n [])) at (turned sessions locks noted n f x y (held_at n locks.held) table h is turns)
+
+-- LOCKS
+
+pub lock_runs : (transaction : TransactionState) (names : List Name) (P : Run → Type 0) → IsRunning (standing_of transaction names) P → runs_now transaction ≡ true
+lock_runs transactions.Idle names P p = absurd p
+lock_runs transactions.Lost names P p = absurd p
+lock_runs (transactions.Running t) names P p = refl
+
+few_of : (transaction : TransactionState) (held names : List Name) (snapshot : ℕ) → IsRunning (standing_of transaction held) (CanHoldMore names snapshot) → length held + length (not_held held names) ≤ 64
+few_of transactions.Idle held names snapshot p = absurd p
+few_of transactions.Lost held names snapshot p = absurd p
+few_of (transactions.Running t) held names snapshot p = p.few
+
+pub lock_few : (sessions : List KeptSession) (held : List (List Name)) (n : ℕ) (names : List Name) (snapshot : ℕ) → AllFit sessions held → At n (sessions_of sessions held) (AsksLock names snapshot)
+    → length (held_at n held) + length (not_held (held_at n held) names) ≤ 64
+lock_few [] [] n names snapshot fit p = absurd p
+lock_few [] (h ∷ held) n names snapshot fit p = absurd fit
+lock_few (k ∷ sessions) [] n names snapshot fit p = absurd fit
+lock_few (k ∷ sessions) (h ∷ held) zero names snapshot fit p = few_of k.transaction h names snapshot p.runs
+lock_few (k ∷ sessions) (h ∷ held) (suc n) names snapshot fit p = lock_few sessions held n names snapshot fit.1 p

@@ -137,3 +137,9 @@ pub record IsUndone (cause : Refusal) (old new : KeptSession) (kept : ℕ) : Typ
 pub record IsKeptAs (kept : KeptSession) (session : Session) : Type 0 where
   pub is : session ≡ session_of kept (held_by session.standing)
   pub fits : HoldsFit kept.transaction (held_by session.standing)
+
+-- the table that the line created
+abbrev pub created_of : TransactionState → Option Name
+created_of transactions.Idle = None
+created_of transactions.Lost = None
+created_of (transactions.Running t) = t.created

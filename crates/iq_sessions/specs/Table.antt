@@ -1,16 +1,23 @@
 -- The sessions of a run with the names that they hold, as contracts see them, and what their calls leave.
-use Rattle.std.specs.Prelude.{◌≡◌, ◌≤◌, ◌<◌, ◌^◌, ⊤, ℕ, ◌+◌, List, [], ◌∷◌, ◌++◌, replicate, slice_set, slice_index_or, sum, map, length, filter, if◌then◌else◌}
+use Rattle.std.specs.Prelude.{◌≡◌, ◌≤◌, ◌<◌, ◌^◌, ⊤, ℕ, ◌+◌, nat_lt, Option, List, [], ◌∷◌, ◌++◌, replicate, slice_set, slice_index_or, map, length, filter, if◌then◌else◌}
 use Rattle.iq_base.specs.Shorts.{Name}
+use Rattle.std.specs.Option.{option_or}
+use Rattle.iq_base.specs.declared.refusals.Refusal.{Refusal}
+use Rattle.iq_base.specs.declared.refusals.Refusal.TheVariants as refusals
 use Rattle.iq_base.specs.declared.nodes.SessionSpec.{SessionSpec}
 use Rattle.iq_model.specs.declared.scripts.Line.{Line}
 use Rattle.iq_model.specs.declared.scripts.Script.{Script}
 use Rattle.iq_locks.specs.Locked.{Written, LockState, latest_of, has_name}
-use Rattle.iq_replay.specs.State.{Session, Standing, idle, lost, running, changed_at}
-use Rattle.iq_replay.specs.Asked.{IsOpen}
+use Rattle.iq_statements.specs.Checks.{found_if, first_found}
+use Rattle.iq_replay.specs.State.{Session, Standing, idle, lost, running, Run, changed_at, not_held, held_by}
+use Rattle.iq_replay.specs.Refusals.{locked_refusal}
+use Rattle.iq_replay.specs.Asked.{IsOpen, IsRunning}
 use Rattle.iq_replay.specs.Start.{is_of, sessions_from}
 use Rattle.iq_replay.specs.Commits.{written_names}
 use Rattle.iq_replay.specs.Changes.{work_in}
-use Rattle.iq_sessions.specs.Kept.{KeptSession, sessions_of, HoldsFit}
+use Rattle.iq_sessions.specs.Bare.{At}
+use Rattle.iq_sessions.specs.Changes.{ends_both}
+use Rattle.iq_sessions.specs.Kept.{KeptSession, sessions_of, fresh_kept, HoldsFit}
 
 -- the sessions without tables and answers; the latest commits of names; and for how many names each session's commit has room
 pub record TableState : Type 0 where
@@ -22,6 +29,10 @@ pub record TableState : Type 0 where
 
 abbrev pub noted_of : List KeptSession → List ℕ
 noted_of sessions = map (λ (kept : KeptSession). kept.noted) sessions
+
+abbrev pub total_of : List ℕ → ℕ
+total_of [] = 0
+total_of (n ∷ ns) = n + total_of ns
 
 abbrev pub table_of : List KeptSession → LockState → TableState
 table_of sessions locks = record { sessions = sessions_of sessions locks.held; wrote = locks.wrote; noted = noted_of sessions }
@@ -35,7 +46,7 @@ AllFit (kept ∷ sessions) (names ∷ held) = HoldsFit kept.transaction names ×
 -- each session fits the names that it holds, and there is room for all names that commits may write
 pub record IsTable (sessions : List KeptSession) (locks : LockState) (noted : ℕ) : Type 0 where
   pub fit : AllFit sessions locks.held
-  pub total : noted ≡ sum (noted_of sessions)
+  pub total : noted ≡ total_of (noted_of sessions)
   pub room : noted ≤ locks.room
   pub few : length sessions < 2 ^ 32
 
@@ -98,3 +109,54 @@ pub record AsksSave (session : Session) : Type 0 where
   pub open_still : IsOpen session.stage
   pub line : 0 < length session.left
   pub few : HasSaveRoom session.standing
+
+-- a transaction runs with this snapshot, and holds few enough names to take these too
+pub record CanHoldMore (names : List Name) (snapshot : ℕ) (run : Run) : Type 0 where
+  pub snapshot_is : run.snapshot ≡ snapshot
+  pub few : length run.now.held + length (not_held run.now.held names) ≤ 64
+
+pub record AsksLock (names : List Name) (snapshot : ℕ) (session : Session) : Type 0 where
+  pub open_still : IsOpen session.stage
+  pub runs : IsRunning session.standing (CanHoldMore names snapshot)
+
+-- a session with a line, whose commit has room for the names that it writes
+pub record AsksCommit (noted : ℕ) (session : Session) : Type 0 where
+  pub line : 0 < length session.left
+  pub room : writes_of session ≤ noted
+
+-- WHAT REFUSES NAMES
+
+-- a name whose latest commit is past the snapshot
+abbrev pub later_refusal : List Written → ℕ → Name → Option Refusal
+later_refusal wrote snapshot name = found_if (nat_lt snapshot (latest_of name wrote)) (refusals.Later name (latest_of name wrote))
+
+-- the first of the names that another session holds, and only where there is none the first that was written past the snapshot
+abbrev pub names_refusal : List Session → List Written → ℕ → ℕ → List Name → Option Refusal
+names_refusal sessions wrote place snapshot names =
+    option_or (first_found (locked_refusal sessions place) names) (first_found (later_refusal wrote snapshot) names)
+
+-- the names that a session doesn't hold
+abbrev pub wanted_of : List Name → Session → List Name
+wanted_of names session = not_held (held_by session.standing) names
+
+-- what refuses the names that a session doesn't hold
+abbrev pub wanted_refusal : List Name → ℕ → ℕ → TableState → Session → Option Refusal
+wanted_refusal names place snapshot table session = names_refusal table.sessions table.wrote place snapshot (wanted_of names session)
+
+-- COMMITS
+
+-- there is room for so many names of a session's commit
+abbrev pub noting : ℕ → ℕ → TableState → TableState
+noting place n table = record table { noted = slice_set table.noted place n }
+
+-- A session's transaction ended with a commit: its names were written by it, and are given back.
+pub record CommitsAt (place c : ℕ) (old new : TableState) : Type 0 where
+  pub sessions : new.sessions ≡ changed_at place ends_both old.sessions
+  pub noted : new.noted ≡ slice_set old.noted place 0
+  pub wrote : At place old.sessions (λ session. WritesAll (written_names (work_in session.standing)) c old.wrote new.wrote)
+
+-- WHERE THEY START, AS THEY ARE KEPT
+
+abbrev pub fresh_kepts : Script → ℕ → List SessionSpec → List KeptSession
+fresh_kepts script place [] = []
+fresh_kepts script place (spec ∷ specs) = fresh_kept script place spec ∷ fresh_kepts script (place + 1) specs

@@ -6,6 +6,7 @@
 //! changes one session as an entry of its line changes it there.
 #![tactic(auto)]
 
+mod locking;
 mod save_names;
 mod session;
 mod session_table;

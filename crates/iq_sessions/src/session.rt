@@ -1,5 +1,6 @@
 //! One session: its transaction, and how far its lines are.
 ghost use Rattle.std.specs.Prelude.{◌≡◌, ◌≤◌, ◌<◌, ◌++◌, ℕ, List, [], true, length, take, filter, ◌≢◌};
+ghost use Rattle.std.specs.Option.{option_copied};
 ghost use Rattle.std.specs.Bool.{OnTrue, OnFalse};
 ghost use Rattle.iq_base.specs.Shorts.{Name};
 ghost use Rattle.iq_base.specs.Locks.{table_locks};
@@ -7,7 +8,7 @@ ghost use Rattle.iq_replay.specs.Start.{is_of};
 ghost use Rattle.iq_replay.specs.Asked.{IsOpen};
 ghost use Rattle.iq_replay.specs.Causes.{tells_lost};
 ghost use Rattle.iq_replay.specs.Changes.{locks_more};
-ghost use Rattle.iq_sessions.specs.Kept.{HoldsFit, HasNotCreated, HasFewSaves, runs_now, stage_of, ended, Turns, fresh_kept, idled, IsUndone};
+ghost use Rattle.iq_sessions.specs.Kept.{HoldsFit, HasNotCreated, HasFewSaves, runs_now, stage_of, ended, Turns, fresh_kept, idled, created_of, IsUndone};
 ghost use Rattle.iq_sessions.specs.Changes.{begins_at, takes, refuses, ends_both, saves, goes_back, releases};
 ghost use Rattle.iq_sessions.specs.declared.session.TransactionState.TheVariants as transactions;
 
@@ -135,6 +136,16 @@ impl Session {
         ensures { result ≡ self.now.noted }
     {
         self.noted
+    }
+
+    /// The table that its line created, if it has.
+    pub(crate) fn created(&self) -> Option<&Name>
+        ensures { option_copied result ≡ created_of self.now.transaction }
+    {
+        match &self.transaction {
+            TransactionState::Idle | TransactionState::Lost => None,
+            TransactionState::Running(transaction) => transaction.created.as_ref(),
+        }
     }
 
     /// There is room for so many names.

@@ -1,15 +1,18 @@
 //! All sessions of a run, and the names that they hold.
-ghost use Rattle.std.specs.Prelude.{◌≡◌, ◌≤◌, ◌<◌, length, IfOk, OnOk, OnErr};
+ghost use Rattle.std.specs.Prelude.{◌≡◌, ◌≤◌, ◌<◌, ◌+◌, length, Some, None, IfOk, OnOk, OnErr, IfErr};
 ghost use Rattle.iq_base.specs.Locks.{table_locks};
 ghost use Rattle.iq_replay.specs.State.{held_by};
-ghost use Rattle.iq_replay.specs.Changes.{ends_run};
+ghost use Rattle.iq_replay.specs.Changes.{ends_run, locks_more};
+ghost use Rattle.iq_replay.specs.Lines.{runs};
+ghost use Rattle.iq_replay.specs.Nodes.{snapshot_of};
 ghost use Rattle.iq_sessions.specs.Bare.{At};
 ghost use Rattle.iq_sessions.specs.Kept.{IsKeptAs};
 ghost use Rattle.iq_sessions.specs.Changes.{begins_at, takes, refuses, ends_both, saves, goes_back, releases};
-ghost use Rattle.iq_sessions.specs.Table.{AsksBegin, AsksOpen, AsksSave, HasLine, with_at};
+ghost use Rattle.iq_sessions.specs.Table.{AsksBegin, AsksOpen, AsksSave, AsksLock, AsksCommit, HasLine, CommitsAt, with_at, noting, noted_at, wanted_of, wanted_refusal};
 
-use crate::session::Session;
-use iq_base::{Name, NoMemory, Refusal};
+use crate::locking::{acquire, write_names};
+use crate::session::{Session, TransactionState};
+use iq_base::{Locks, Name, NoMemory, Refusal};
 use iq_locks::LockTable;
 use iq_model::Script;
 use std::alloc::Global;
@@ -121,5 +124,92 @@ impl SessionTable {
         ensures { self.new ≡ with_at s (releases name.now) self.old }
     {
         self.sessions[s as usize].release(name);
+    }
+
+    /// A session gets the names of a statement that it doesn't hold; or nothing changes, and the first is told that another session
+    /// holds, and only where there is none the first that was written past the snapshot. It takes no memory.
+    pub fn lock(&mut self, s: u32, names: &Locks, snapshot: u64) -> Result<(), Refusal>
+        requires { At s self.old.sessions (AsksLock names.now snapshot) }
+        ensures ok { OnOk result (At s self.old.sessions (λ session. self.new ≡ with_at s (locks_more (wanted_of names.now session)) self.old)) }
+        ensures granted { OnOk result (At s self.old.sessions (λ session. wanted_refusal names.now s snapshot self.old session ≡ None)) }
+        ensures err { IfErr result (λ cause. At s self.old.sessions (λ session. wanted_refusal names.now s snapshot self.old session ≡ Some cause)) }
+        ensures unchanged { OnErr result (self.new ≡ self.old) }
+    {
+        match acquire(&mut self.locks, names, s, snapshot) {
+            Ok(()) => {
+                self.sessions[s as usize].lock();
+                Ok(())
+            }
+            Err(cause) => Err(cause),
+        }
+    }
+
+    /// Makes room for the names that a session's commit may write: those that it holds, and one that it creates.
+    pub fn note_names(&mut self, s: u32) -> Result<(), NoMemory>
+        requires { s < length self.old.sessions }
+        ensures ok { OnOk result (At s self.old.sessions (λ session. self.new ≡ noting s (length (held_by session.standing) + 1) self.old)) }
+        ensures err { OnErr result (self.new ≡ self.old) }
+    {
+        let n = self.locks.held(s).len() + 1;
+        let Some(total) = self.noted.checked_add(n) else {
+            return Err(NoMemory);
+        };
+        self.locks.name_room(total)?;
+        let before = self.sessions[s as usize].noted();
+        self.sessions[s as usize].note(n);
+        self.noted = total - before;
+        Ok(())
+    }
+
+    /// A transaction ends with a commit, which writes its names. It takes no memory.
+    pub fn commit(&mut self, s: u32, c: u64)
+        requires { At s self.old.sessions (AsksCommit (noted_at s self.old.noted)) }
+        ensures { CommitsAt s c self.old self.new }
+    {
+        let session = &self.sessions[s as usize];
+        let noted = session.noted();
+        write_names(&mut self.locks, s, session.created(), c);
+        let session = &mut self.sessions[s as usize];
+        session.note(0);
+        session.end();
+        self.locks.drop_all(s);
+        self.noted -= noted;
+    }
+
+    /// The snapshot of a running transaction.
+    pub fn snapshot(&self, s: u32) -> Option<u64>
+        requires { s < length self.now.sessions }
+        ensures { At s self.now.sessions (λ session. result ≡ snapshot_of session.standing) }
+    {
+        match self.session(s).transaction() {
+            TransactionState::Idle | TransactionState::Lost => None,
+            TransactionState::Running(transaction) => Some(transaction.snapshot),
+        }
+    }
+
+    /// Whether a transaction runs.
+    pub fn runs(&self, s: u32) -> bool
+        requires { s < length self.now.sessions }
+        ensures { At s self.now.sessions (λ session. result ≡ runs session.standing) }
+    {
+        match self.session(s).transaction() {
+            TransactionState::Idle | TransactionState::Lost => false,
+            TransactionState::Running(_) => true,
+        }
+    }
+
+    /// The node of a session.
+    pub fn node(&self, s: u32) -> u32
+        requires { s < length self.now.sessions }
+        ensures { At s self.now.sessions (λ session. result ≡ session.node) }
+    {
+        self.session(s).node()
+    }
+
+    /// How many sessions there are.
+    pub fn len(&self) -> u32
+        ensures { result ≡ length self.now.sessions }
+    {
+        self.sessions.len() as u32
     }
 }
