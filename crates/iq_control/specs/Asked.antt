@@ -1,0 +1,88 @@
+-- What is asked of the control and of a session's line before an entry.
+use Rattle.std.specs.Prelude.{◌≡◌, ◌≤◌, ℕ, ◌+◌, Bool, true, false, List, [], ◌∷◌, Option, Some, None, IsSomeAnd}
+use Rattle.std.specs.List.{slice_get}
+use Rattle.iq_base.specs.Shorts.{Name}
+use Rattle.iq_ast.specs.declared.statements.Statement.{Statement}
+use Rattle.iq_ast.specs.declared.statements.Statement.TheVariants as statements
+use Rattle.iq_model.specs.declared.scripts.Line.{Line}
+use Rattle.iq_statements.specs.Checks.{Check, first_refusal}
+use Rattle.iq_statements.specs.Statements.{IsOnTables, IsWrite, HasMeaning, Begins, creates}
+use Rattle.iq_replay.specs.State.{State, Session, Standing, idle, lost, running, Run, Node, fresh, has_some}
+use Rattle.iq_replay.specs.Nodes.{node_position}
+use Rattle.iq_replay.specs.Refusals.{lost_refusal, at_node, excluded_refusal, transaction_refusal, before_line, reader_refusal, wanted}
+use Rattle.iq_replay.specs.Asked.{FirstIs, StatementIs, IsRunning, IsOpen, IsUnlocked, HoldsAll, IsGranted, Rises}
+use Rattle.iq_replay.specs.Lines.{CanEnd}
+use Rattle.iq_sessions.specs.Bare.{At}
+use Rattle.iq_control.specs.Control.{ControlState}
+
+-- LINES
+
+-- The script's end hasn't begun to roll back, and the session's next line has this number and a statement, which are such.
+abbrev pub AtLine : ControlState → ℕ → ℕ → (Session → Statement → Type 0) → Type 0
+AtLine c place l P =
+    (c.closing ≡ false) × At place c.table.sessions (λ session. FirstIs session.left l (λ deed. StatementIs deed (P session)))
+
+-- THE TESTS BEFORE A STATEMENT'S OWN
+
+-- a lost transaction, an excluded node, the transaction's state, a reader
+abbrev pub early_checks : List Node → Session → Statement → List Check
+early_checks nodes session statement =
+    record { order = 2; found = lost_refusal (slice_get nodes session.node) session.standing }
+    ∷ record { order = 2; found = at_node excluded_refusal (slice_get nodes session.node) }
+    ∷ record { order = 3; found = transaction_refusal (before_line session.standing) statement }
+    ∷ record { order = 4; found = reader_refusal (slice_get nodes session.node) statement }
+    ∷ []
+
+-- they find nothing
+abbrev pub IsAdmitted : List Node → Session → Statement → Type 0
+IsAdmitted nodes session statement = IsGranted (early_checks nodes session statement)
+
+-- WHAT EACH CALL ASKS OF THE LINE
+
+-- whether a transaction that begins with a statement is the line's own
+abbrev pub is_own : Statement → Bool
+is_own (statements.Write write) = true
+is_own (statements.Select select) = true
+is_own statements.Begin = false
+is_own statements.Commit = false
+is_own statements.Rollback = false
+is_own (statements.Savepoint name) = false
+is_own (statements.BackTo name) = false
+is_own (statements.Release name) = false
+is_own statements.Sync = false
+
+-- nothing refuses the statement before a transaction begins, which is the line's own or not
+pub record AsksBegin (c : ControlState) (own : Bool) (session : Session) (statement : Statement) : Type 0 where
+  pub begins : Begins statement
+  pub own_is : own ≡ is_own statement
+  pub stage : session.stage ≡ fresh
+  pub none : session.standing ≡ idle
+  pub admitted : IsAdmitted c.nodes session statement
+
+-- the snapshot that a session's transaction gets
+abbrev pub IsSnapshot : ControlState → Session → ℕ → Type 0
+IsSnapshot c session commit = IsSomeAnd (slice_get c.nodes session.node) (λ node. commit ≡ node_position c.latest node)
+
+-- these are the names that the running transaction of a write's line locks and doesn't hold, one at least
+pub record AsksLock (names : List Name) (session : Session) (statement : Statement) : Type 0 where
+  pub write : IsWrite statement
+  pub stage : IsUnlocked session.stage
+  pub names_are : IsRunning session.standing (λ run. names ≡ wanted statement run)
+  pub some : has_some names ≡ true
+
+-- a statement on tables in a running transaction that holds its names, before its effect, which creates these
+pub record AsksTake (created : List Name) (session : Session) (statement : Statement) : Type 0 where
+  pub tables : IsOnTables statement
+  pub meaning : HasMeaning statement
+  pub stage : IsOpen session.stage
+  pub held : IsRunning session.standing (λ run. HoldsAll run statement)
+  pub created_are : created ≡ creates statement
+
+-- the line ends its transaction, which holds a name, or none
+abbrev pub AsksEnd : Bool → Session → Statement → Type 0
+AsksEnd holds session statement = IsRunning session.standing (CanEnd holds session statement)
+
+-- a line of one entry: this statement, which nothing refuses
+pub record AsksRun (c : ControlState) (this : Statement) (session : Session) (statement : Statement) : Type 0 where
+  pub same : statement ≡ this
+  pub admitted : IsAdmitted c.nodes session statement
