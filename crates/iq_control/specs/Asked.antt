@@ -1,7 +1,9 @@
 -- What is asked of the control and of a session's line before an entry.
-use Rattle.std.specs.Prelude.{◌≡◌, ◌≤◌, ℕ, ◌+◌, Bool, true, false, List, [], ◌∷◌, Option, Some, None, IsSomeAnd}
+use Rattle.std.specs.Prelude.{◌≡◌, ⊤, ℕ, Bool, true, false, List, [], ◌∷◌, Option, Some, None, IsSomeAnd}
 use Rattle.std.specs.List.{slice_get}
 use Rattle.iq_base.specs.Shorts.{Name}
+use Rattle.iq_base.specs.declared.refusals.Refusal.{Refusal}
+use Rattle.iq_base.specs.declared.refusals.Refusal.TheVariants as refusals
 use Rattle.iq_ast.specs.declared.statements.Statement.{Statement}
 use Rattle.iq_ast.specs.declared.statements.Statement.TheVariants as statements
 use Rattle.iq_model.specs.declared.scripts.Line.{Line}
@@ -9,10 +11,11 @@ use Rattle.iq_statements.specs.Checks.{Check, first_refusal}
 use Rattle.iq_statements.specs.Statements.{IsOnTables, IsWrite, HasMeaning, Begins, creates}
 use Rattle.iq_replay.specs.State.{State, Session, Standing, idle, lost, running, Run, Node, fresh, has_some}
 use Rattle.iq_replay.specs.Nodes.{node_position}
-use Rattle.iq_replay.specs.Refusals.{lost_refusal, at_node, excluded_refusal, transaction_refusal, before_line, reader_refusal, wanted}
+use Rattle.iq_replay.specs.Refusals.{lost_refusal, at_node, excluded_refusal, transaction_refusal, before_line, reader_refusal, wanted, line_checks, checks_below, checks_but}
 use Rattle.iq_replay.specs.Asked.{FirstIs, StatementIs, IsRunning, IsOpen, IsUnlocked, HoldsAll, IsGranted, Rises}
 use Rattle.iq_replay.specs.Lines.{CanEnd}
 use Rattle.iq_sessions.specs.Bare.{At}
+use Rattle.iq_sessions.specs.Table.{names_refusal}
 use Rattle.iq_control.specs.Control.{ControlState}
 
 -- LINES
@@ -86,3 +89,45 @@ AsksEnd holds session statement = IsRunning session.standing (CanEnd holds sessi
 pub record AsksRun (c : ControlState) (this : Statement) (session : Session) (statement : Statement) : Type 0 where
   pub same : statement ≡ this
   pub admitted : IsAdmitted c.nodes session statement
+
+-- none of these names is held by another session or was written past the snapshot of the running transaction
+abbrev pub AreFree : ControlState → ℕ → List Name → Session → Type 0
+AreFree c place names session =
+    IsRunning session.standing (λ run. names_refusal c.table.sessions c.table.wrote place run.snapshot names ≡ None)
+
+-- the first of the names that the running transaction of a write's line locks and doesn't hold is refused so
+pub record AreRefused (c : ControlState) (place : ℕ) (cause : Refusal) (session : Session) (statement : Statement) : Type 0 where
+  pub stage : IsOpen session.stage
+  pub cause_is : IsRunning session.standing (λ run. names_refusal c.table.sessions c.table.wrote place run.snapshot (wanted statement run) ≡ Some cause)
+
+-- WHAT REFUSES A LINE
+
+-- before its effect, the first that the tests before a statement's own find
+abbrev pub IsNotAdmitted : ControlState → Refusal → Session → Statement → Type 0
+IsNotAdmitted c cause session statement = IsOpen session.stage × (first_refusal (early_checks c.nodes session statement) ≡ Some cause)
+
+-- its transaction was ended by a restart or an exclusion of the node, at any place of the line
+abbrev pub HasLost : ControlState → ℕ → Session → Statement → Type 0
+HasLost c incarnation session statement =
+    lost_refusal (slice_get c.nodes session.node) session.standing ≡ Some (refusals.Lost incarnation)
+
+-- a write in a running transaction
+abbrev pub IsWriting : Session → Statement → Type 0
+IsWriting session statement = IsWrite statement × IsRunning session.standing (λ run. ⊤)
+
+-- COMMIT, before which nothing stands, of a transaction that holds a name
+pub record IsHaltedCommit (c : ControlState) (session : Session) (statement : Statement) : Type 0 where
+  pub same : statement ≡ statements.Commit
+  pub stage : IsOpen session.stage
+  pub admitted : IsAdmitted c.nodes session statement
+  pub held : IsRunning session.standing (λ run. has_some run.now.held ≡ true)
+
+-- WHAT ONLY TABLES TELL
+
+-- no test of names and values refuses the line in this state
+abbrev pub IsNamed : State → ℕ → Session → Statement → Type 0
+IsNamed s place session statement = IsGranted (checks_below 7 (line_checks s place session statement))
+
+-- nothing but a halt refuses it
+abbrev pub IsUnrefused : State → ℕ → Session → Statement → Type 0
+IsUnrefused s place session statement = IsGranted (checks_but 7 (line_checks s place session statement))

@@ -1,3 +1,4 @@
 pub mod Control
 pub mod Changes
 pub mod Asked
+pub mod Due

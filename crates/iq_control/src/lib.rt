@@ -6,6 +6,14 @@
 //! keeps stays that of the state that its history leaves (`Follows`).
 #![tactic(auto)]
 
+mod control;
 mod laws;
+mod nodes;
 
-pub use laws::{the_control_follows_an_entry};
+pub use control::Control;
+pub use laws::{
+    the_control_follows_a_begin, the_control_follows_a_lock, the_control_follows_a_refusal,
+    the_control_follows_a_rollback, the_control_follows_a_savepoint, the_control_follows_an_effect,
+    the_control_follows_an_end, the_control_knows_causes,
+};
+pub use nodes::ControlNode;
