@@ -13,9 +13,10 @@ use Rattle.iq_model.specs.declared.scripts.Deed.TheVariants as deeds
 use Rattle.iq_replay.specs.State.{Session, Stage, fresh, begun, locked, done, Standing, idle, lost, running, Run, Node, changed_at}
 use Rattle.iq_replay.specs.Asked.{FirstIs, StatementIs, IsRunning, IsOpen, IsUnlocked}
 use Rattle.iq_replay.specs.Causes.{tells_lost}
-use Rattle.iq_replay.specs.Changes.{ends_run, on_run, works, locks_more, after_refusal}
+use Rattle.iq_replay.specs.Lines.{runs}
+use Rattle.iq_replay.specs.Changes.{ends_run, on_run, works, holds_more, locks_more, after_refusal}
 use Rattle.iq_sessions.specs.Bare.{At}
-use Rattle.iq_sessions.specs.Changes.{ends_line, begins_at, takes, refuses, ends_both}
+use Rattle.iq_sessions.specs.Changes.{ends_line, begins_at, creates_more, keeps_work, took, takes, refuses, ends_both}
 use Rattle.iq_sessions.specs.Table.{TableState}
 use Rattle.iq_control.specs.Control.{ControlState}
 use Rattle.iq_control.specs.Asked.{AtLine}
@@ -114,3 +115,125 @@ stepped old new e latest now n nodes after table next f x kept found changed les
       number = rw changed (omega (arith, all, less, kept.number, low));
       nodes_are = rw (changed, long) (nodes_changed n (length nodes) f table.sessions same kept.nodes_are);
     }
+
+pub some_due : (session : Session) → 0 < length session.left → 0 < due session
+some_due session some = by_left session.stage session.left some
+  where
+    by_left : (stage : Stage) (left : List Line) → 0 < length left → 0 < line_due stage left + standing_due session.standing
+    by_left stage [] some = absurd (omega (arith, some))
+    by_left fresh (line ∷ lines) some = omega arith
+    by_left begun (line ∷ lines) some = omega arith
+    by_left locked (line ∷ lines) some = omega arith
+    by_left done (line ∷ lines) some = omega arith
+
+-- EACH CALL
+
+pub due_begin : (own : Bool) (c : ℕ) (session : Session) → session.stage ≡ fresh → session.standing ≡ idle → 0 < length session.left → due (begins_at own c session) < due session
+due_begin true c session stage none some = rw (stage, none) (by_left session.left some)
+  where
+    by_left : (left : List Line) → 0 < length left → line_due begun left + 1 < line_due fresh left + 0
+    by_left [] some = absurd (omega (arith, some))
+    by_left (line ∷ lines) some = omega arith
+due_begin false c session stage none some = rw (stage, none) (by_left session.left some)
+  where
+    by_left : (left : List Line) → 0 < length left → line_due fresh (drop 1 left) + 1 < line_due fresh left + 0
+    by_left [] some = absurd (omega (arith, some))
+    by_left (line ∷ []) some = omega arith
+    by_left (line ∷ (next ∷ lines)) some = omega arith
+
+pub same_begin : (own : Bool) (c : ℕ) (session : Session) → (begins_at own c session).node ≡ session.node
+same_begin true c session = refl
+same_begin false c session = refl
+
+standing_run : (f : Run → Run) (standing : Standing) → standing_due (on_run f standing) ≡ standing_due standing
+standing_run f idle = refl
+standing_run f lost = refl
+standing_run f (running run) = refl
+
+pub due_lock : (names : List Name) (session : Session) → IsUnlocked session.stage → 0 < length session.left → due (locks_more names session) < due session
+due_lock names session stage some = omega (arith, by_stage session.stage session.left stage some, standing_run (holds_more names) session.standing)
+  where
+    by_stage : (stage : Stage) (left : List Line) → IsUnlocked stage → 0 < length left → line_due locked left < line_due stage left
+    by_stage stage [] h some = absurd (omega (arith, some))
+    by_stage fresh (line ∷ lines) h some = omega arith
+    by_stage begun (line ∷ lines) h some = omega arith
+    by_stage locked (line ∷ lines) h some = absurd h
+    by_stage done (line ∷ lines) h some = absurd h
+
+pub due_works : (f : Run → Run) (session : Session) → 0 < length session.left → due (ends_line (works f session)) < due session
+due_works f session some = omega (arith, ends_due session.stage session.left some, standing_run f session.standing)
+
+after_due : (cause : Refusal) (standing : Standing) → standing_due (after_refusal cause standing) ≤ standing_due standing
+after_due cause idle = omega arith
+after_due cause lost = by_told (tells_lost cause)
+  where
+    by_told : (b : Bool) → standing_due (if b then idle else lost) ≤ 0
+    by_told true = omega arith
+    by_told false = omega arith
+after_due cause (running run) = by_own run.own
+  where
+    by_own : (b : Bool) → standing_due (if b then idle else running (record run { now = run.start })) ≤ 1
+    by_own true = omega arith
+    by_own false = omega arith
+
+pub due_refuse : (cause : Refusal) (session : Session) → 0 < length session.left → due (refuses cause session) < due session
+due_refuse cause session some = omega (arith, ends_due session.stage session.left some, after_due cause session.standing)
+
+pub due_close : (session : Session) → runs session.standing ≡ true → due (ends_run session) < due session
+due_close session h = omega (arith, by_standing session.standing h)
+  where
+    by_standing : (standing : Standing) → runs standing ≡ true → 0 < standing_due standing
+    by_standing idle h = cc h
+    by_standing lost h = cc h
+    by_standing (running run) h = omega arith
+
+done_due : (stage : Stage) (left : List Line) → IsOpen stage → 0 < length left → line_due done left < line_due stage left
+done_due stage [] h some = absurd (omega (arith, some))
+done_due fresh (line ∷ lines) h some = omega arith
+done_due begun (line ∷ lines) h some = omega arith
+done_due locked (line ∷ lines) h some = omega arith
+done_due done (line ∷ lines) h some = absurd h
+
+take_due : (own : Bool) (names : List Name) (run : Run) (session : Session) → IsOpen session.stage → 0 < length session.left
+    → due (if own then record session { standing = running (creates_more names run); stage = done } else ends_line (record session { standing = running (keeps_work run) })) < line_due session.stage session.left + 1
+take_due true names run session stage some = omega (arith, done_due session.stage session.left stage some)
+take_due false names run session stage some = omega (arith, ends_due session.stage session.left some)
+
+took_due : (names : List Name) (standing : Standing) (session : Session) (P : Run → Type 0) → IsRunning standing P → IsOpen session.stage → 0 < length session.left → due (took names standing session) < line_due session.stage session.left + standing_due standing
+took_due names idle session P p stage some = absurd p
+took_due names lost session P p stage some = absurd p
+took_due names (running run) session P p stage some = take_due run.own names run session stage some
+
+pub due_take : (names : List Name) (session : Session) (P : Run → Type 0) → IsRunning session.standing P → IsOpen session.stage → 0 < length session.left → due (takes names session) < due session
+due_take names session P p stage some = took_due names session.standing session P p stage some
+
+took_node : (names : List Name) (standing : Standing) (session : Session) → (took names standing session).node ≡ session.node
+took_node names idle session = refl
+took_node names lost session = refl
+took_node names (running run) session = by_own run.own
+  where
+    by_own : (own : Bool) → (if own then record session { standing = running (creates_more names run); stage = done } else ends_line (record session { standing = running (keeps_work run) })).node ≡ session.node
+    by_own true = refl
+    by_own false = refl
+
+pub same_take : (names : List Name) (session : Session) → (takes names session).node ≡ session.node
+same_take names session = took_node names session.standing session
+
+pub found_in : (a b : TableState) (n : ℕ) (x : Session) → a ≡ b → slice_get b.sessions n ≡ Some x → slice_get a.sessions n ≡ Some x
+found_in a b n x same found = rw same found
+
+-- a session whose transaction runs
+pub record RunsHere (sessions : List Session) (place : ℕ) : Type 0 where
+  pub session : Session
+  pub found : slice_get sessions place ≡ Some session
+  pub holds : runs session.standing ≡ true
+
+pub runs_here : (sessions : List Session) (place : ℕ) → At place sessions (λ session. runs session.standing ≡ true) → RunsHere sessions place
+runs_here sessions place p = at_session (slice_get sessions place) refl p
+  where
+    at_session : (o : Option Session) → slice_get sessions place ≡ o → IsSomeAnd o (λ session. runs session.standing ≡ true) → RunsHere sessions place
+    at_session None is p = absurd p
+    at_session (Some session) is p = record { session = session; found = is; holds = p }
+
+pub runs_due : (session : Session) → runs session.standing ≡ true → 0 < due session
+runs_due session h = omega (arith, due_close session h)

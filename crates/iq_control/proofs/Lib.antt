@@ -5,3 +5,4 @@ pub mod Orders
 pub mod Possible
 pub mod Follows
 pub mod Due
+pub mod Moves

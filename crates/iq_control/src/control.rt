@@ -1,10 +1,17 @@
 //! The control of a run.
-ghost use Rattle.std.specs.Prelude.{◌≡◌, ◌<◌, true, false};
+ghost use Rattle.std.specs.Prelude.{◌≡◌, ◌<◌, ◌+◌, ⊤, true, false, length};
+ghost use Rattle.iq_base.specs.Locks.{table_locks};
+ghost use Rattle.iq_ast.specs.declared.statements.Statement.TheVariants as statements;
+ghost use Rattle.iq_history.specs.Placed.{IsPlacedRefusal};
+ghost use Rattle.iq_replay.specs.Causes.{faults_after};
+ghost use Rattle.iq_replay.specs.Lines.{runs};
 ghost use Rattle.iq_sessions.specs.Bare.{At};
-ghost use Rattle.iq_control.specs.Asked.{AtLine, AsksEnd};
-ghost use Rattle.iq_control.specs.Changes.{ended};
+ghost use Rattle.iq_sessions.specs.Table.{AsksOpen, AsksSave, AsksCommit, CommitsAt, noted_at};
+ghost use Rattle.iq_control.specs.Asked.{AtLine, IsSnapshot, AsksBegin, AsksTake, AsksEnd, AsksRun};
+ghost use Rattle.iq_control.specs.Changes.{begun, took, refused_line, committed_at, ended, rolled_back, rolled_at_end, halted_at, saved, went_back, released};
 
-use crate::nodes::ControlNode;
+use crate::nodes::{ControlNode, move_node};
+use iq_base::{Name, Refusal};
 use iq_history::{Entry, History};
 use iq_model::Script;
 use iq_sessions::SessionTable;
@@ -70,5 +77,155 @@ impl Control {
     {
         self.table.end(s);
         self.history.push(Entry::End { s, l: line });
+    }
+
+    /// A transaction begins, the line's own or the session's, at its node's position, which is its snapshot.
+    pub fn begin(&mut self, s: u32, line: u32, own: bool) -> u64
+        requires { AtLine self.old s line (AsksBegin self.old own) }
+        ensures snapshot { At s self.old.table.sessions (λ session. IsSnapshot self.old session result) }
+        ensures begun { self.new ≡ begun s line own result self.old }
+    {
+        let c = self.position(s);
+        self.table.begin(s, own, c);
+        self.history.push(Entry::Begin { s, l: line, c });
+        c
+    }
+
+    /// The position of a session's node.
+    pub fn position(&self, s: u32) -> u64
+        requires { s < length self.now.table.sessions }
+        ensures { At s self.now.table.sessions (λ session. IsSnapshot self.now session result) }
+    {
+        self.nodes[self.table.node(s) as usize].position(self.latest)
+    }
+
+    /// The statement of a line took effect, and created a table or none.
+    pub fn done(&mut self, s: u32, line: u32, created: Option<Name>)
+        requires { AtLine self.old s line (AsksTake (table_locks created)) }
+        ensures { self.new ≡ took s line (table_locks created) self.old }
+    {
+        self.table.take(s, created);
+        self.history.push(Entry::Done { s, l: line });
+    }
+
+    /// The line is refused: the names that it took itself are given back, and its own transaction ends.
+    pub fn refuse(&mut self, s: u32, line: u32, cause: &Refusal)
+        requires at { AtLine self.old s line (λ session statement. ⊤) }
+        requires placed { IsPlacedRefusal (length self.old.table.sessions) cause.now }
+        ensures { self.new ≡ refused_line s line cause.now self.old }
+    {
+        self.faults = faults_after(cause, self.faults);
+        self.table.refuse(s, cause);
+        self.history.push(Entry::Refused {
+            s: Some(s),
+            l: line,
+            cause: cause.again(),
+        });
+    }
+
+    /// The line's transaction, which holds a name, ends with the next commit, whose number is answered. The session's node is there.
+    pub fn commit(&mut self, s: u32, line: u32) -> u64
+        requires at { AtLine self.old s line (AsksEnd true) }
+        requires room { At s self.old.table.sessions (AsksCommit (noted_at s self.old.table.noted)) }
+        ensures number { result ≡ self.old.latest + 1 }
+        ensures committed { self.new ≡ committed_at s line self.new.table self.old }
+        ensures table { CommitsAt s (self.old.latest + 1) self.old.table self.new.table }
+    {
+        let c = self.latest + 1;
+        let node = self.table.node(s) as usize;
+        self.table.commit(s, c);
+        move_node(&mut self.nodes, node, c);
+        self.history.push(Entry::Commit { s, l: line, c });
+        self.latest = c;
+        c
+    }
+
+    /// The next commit met a device fault, while the count of faults rose so: an own transaction ends, another goes on.
+    pub fn halt(&mut self, s: u32, line: u32, before: u64, after: u64)
+        requires { AtLine self.old s line (AsksEnd true) }
+        ensures { self.new ≡ halted_at s line before after self.old }
+    {
+        let c = self.latest + 1;
+        self.table.refuse(s, &Refusal::StoreFault { before, after });
+        self.history.push(Entry::Halt {
+            s,
+            l: line,
+            c,
+            before,
+            after,
+        });
+        self.halted = Some(c);
+        self.faults = after;
+    }
+
+    /// The session's transaction is rolled back by its line.
+    pub fn rollback(&mut self, s: u32, line: u32)
+        requires { AtLine self.old s line (AsksRun self.old statements.Rollback) }
+        ensures { self.new ≡ rolled_back s line self.old }
+    {
+        self.table.end(s);
+        self.history.push(Entry::Rollback { s, l: line });
+    }
+
+    /// The transaction of the first session that still runs one is rolled back at the script's end.
+    pub fn roll_back_at_end(&mut self, s: u32)
+        requires { At s self.old.table.sessions (λ session. runs session.standing ≡ true) }
+        ensures { self.new ≡ rolled_at_end s self.old }
+    {
+        self.table.end_transaction(s);
+        self.history.push(Entry::Rollback { s, l: 0 });
+        self.closing = true;
+    }
+
+    /// A savepoint stands, and hides an older one of its name.
+    pub fn savepoint(&mut self, s: u32, line: u32, name: &Name)
+        requires at { AtLine self.old s line (AsksRun self.old (statements.Savepoint name.now)) }
+        requires few { At s self.old.table.sessions AsksSave }
+        ensures { self.new ≡ saved s line name.now self.old }
+    {
+        self.table.save(s, name);
+        self.history.push(Entry::Savepoint {
+            s,
+            l: line,
+            name: name.again(),
+        });
+    }
+
+    /// The transaction is back at a savepoint. The names that it holds stay.
+    pub fn back_to(&mut self, s: u32, line: u32, name: &Name)
+        requires at { AtLine self.old s line (AsksRun self.old (statements.BackTo name.now)) }
+        requires open_still { At s self.old.table.sessions AsksOpen }
+        ensures { self.new ≡ went_back s line name.now self.old }
+    {
+        self.table.go_back(s, name);
+        self.history.push(Entry::Back {
+            s,
+            l: line,
+            name: name.again(),
+        });
+    }
+
+    /// A savepoint goes, and those behind it.
+    pub fn release(&mut self, s: u32, line: u32, name: &Name)
+        requires at { AtLine self.old s line (AsksRun self.old (statements.Release name.now)) }
+        requires open_still { At s self.old.table.sessions AsksOpen }
+        ensures { self.new ≡ released s line name.now self.old }
+    {
+        self.table.release(s, name);
+        self.history.push(Entry::Release {
+            s,
+            l: line,
+            name: name.again(),
+        });
+    }
+}
+
+/// The last count of faults told, after a refusal.
+fn faults_after(cause: &Refusal, told: u64) -> u64
+    ensures { result ≡ faults_after cause.now told }
+{
+    match cause {
+        Refusal::StoreFault { before: _, after } => *after,
+        _ => told,
     }
 }

@@ -1,6 +1,6 @@
 //! The nodes of a run.
-ghost use Rattle.std.specs.Prelude.{◌≡◌};
-ghost use Rattle.iq_replay.specs.State.{moved_to};
+ghost use Rattle.std.specs.Prelude.{◌≡◌, ◌<◌, length};
+ghost use Rattle.iq_replay.specs.State.{changed_at, moved_to};
 ghost use Rattle.iq_replay.specs.Start.{node_start};
 ghost use Rattle.iq_replay.specs.Nodes.{node_position};
 
@@ -64,4 +64,13 @@ impl ControlNode {
     {
         self.position = c;
     }
+}
+
+/// The node at a place moves to a commit.
+#[tactic(auto, using(crate::proofs::Moves::set_is_changed))]
+pub(crate) fn move_node(nodes: &mut Vec<ControlNode>, n: usize, c: u64)
+    requires { n < length nodes.old.items }
+    ensures { nodes.new.items ≡ changed_at n (moved_to c) nodes.old.items }
+{
+    nodes[n].move_to(c);
 }
