@@ -6,3 +6,4 @@ pub mod Possible
 pub mod Follows
 pub mod Due
 pub mod Moves
+pub mod Locks

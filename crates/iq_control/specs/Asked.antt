@@ -1,6 +1,7 @@
 -- What is asked of the control and of a session's line before an entry.
-use Rattle.std.specs.Prelude.{◌≡◌, ⊤, ℕ, Bool, true, false, List, [], ◌∷◌, Option, Some, None, IsSomeAnd}
+use Rattle.std.specs.Prelude.{◌≡◌, ◌≤◌, ⊤, ℕ, ◌+◌, length, Bool, true, false, List, [], ◌∷◌, Option, Some, None, IsSomeAnd}
 use Rattle.std.specs.List.{slice_get}
+use Rattle.std.specs.Option.{option_or}
 use Rattle.iq_base.specs.Shorts.{Name}
 use Rattle.iq_base.specs.declared.refusals.Refusal.{Refusal}
 use Rattle.iq_base.specs.declared.refusals.Refusal.TheVariants as refusals
@@ -9,7 +10,7 @@ use Rattle.iq_ast.specs.declared.statements.Statement.TheVariants as statements
 use Rattle.iq_model.specs.declared.scripts.Line.{Line}
 use Rattle.iq_statements.specs.Checks.{Check, first_refusal}
 use Rattle.iq_statements.specs.Statements.{IsOnTables, IsWrite, HasMeaning, Begins, creates}
-use Rattle.iq_replay.specs.State.{State, Session, Standing, idle, lost, running, Run, Node, fresh, has_some}
+use Rattle.iq_replay.specs.State.{State, Session, Standing, idle, lost, running, Run, Node, fresh, has_some, held_by}
 use Rattle.iq_replay.specs.Nodes.{node_position}
 use Rattle.iq_replay.specs.Refusals.{lost_refusal, at_node, excluded_refusal, transaction_refusal, before_line, reader_refusal, wanted, line_checks, checks_below, checks_but}
 use Rattle.iq_replay.specs.Asked.{FirstIs, StatementIs, IsRunning, IsOpen, IsUnlocked, HoldsAll, IsGranted, Rises}
@@ -99,6 +100,19 @@ AreFree c place names session =
 pub record AreRefused (c : ControlState) (place : ℕ) (cause : Refusal) (session : Session) (statement : Statement) : Type 0 where
   pub stage : IsOpen session.stage
   pub cause_is : IsRunning session.standing (λ run. names_refusal c.table.sessions c.table.wrote place run.snapshot (wanted statement run) ≡ Some cause)
+
+-- what refuses these names to a session's running transaction: a halt, then the names
+abbrev pub halted_found : Option ℕ → Option Refusal
+halted_found None = None
+halted_found (Some commit) = Some (refusals.Halted commit)
+
+abbrev pub AreNotFree : ControlState → ℕ → List Name → Refusal → Session → Type 0
+AreNotFree c place names cause session =
+    IsRunning session.standing (λ run. option_or (halted_found c.halted) (names_refusal c.table.sessions c.table.wrote place run.snapshot names) ≡ Some cause)
+
+-- a session can hold so many names more
+abbrev pub HasHoldRoom : List Name → Session → Type 0
+HasHoldRoom names session = length (held_by session.standing) + length names ≤ 64
 
 -- WHAT REFUSES A LINE
 

@@ -1,5 +1,5 @@
 //! The control of a run.
-ghost use Rattle.std.specs.Prelude.{◌≡◌, ◌<◌, ◌+◌, ⊤, true, false, length};
+ghost use Rattle.std.specs.Prelude.{◌≡◌, ◌<◌, ◌+◌, ⊤, true, false, length, unwrap_or, None, OnOk, OnErr, IfErr};
 ghost use Rattle.iq_base.specs.Locks.{table_locks};
 ghost use Rattle.iq_ast.specs.declared.statements.Statement.TheVariants as statements;
 ghost use Rattle.iq_history.specs.Placed.{IsPlacedRefusal};
@@ -7,11 +7,11 @@ ghost use Rattle.iq_replay.specs.Causes.{faults_after};
 ghost use Rattle.iq_replay.specs.Lines.{runs};
 ghost use Rattle.iq_sessions.specs.Bare.{At};
 ghost use Rattle.iq_sessions.specs.Table.{AsksOpen, AsksSave, AsksCommit, CommitsAt, noted_at};
-ghost use Rattle.iq_control.specs.Asked.{AtLine, IsSnapshot, AsksBegin, AsksTake, AsksEnd, AsksRun};
-ghost use Rattle.iq_control.specs.Changes.{begun, took, refused_line, committed_at, ended, rolled_back, rolled_at_end, halted_at, saved, went_back, released};
+ghost use Rattle.iq_control.specs.Asked.{AtLine, IsSnapshot, AsksBegin, AsksLock, AsksTake, AreFree, AreNotFree, HasHoldRoom, AsksEnd, AsksRun};
+ghost use Rattle.iq_control.specs.Changes.{begun, locked_more, took, refused_line, committed_at, ended, rolled_back, rolled_at_end, halted_at, saved, went_back, released};
 
 use crate::nodes::{ControlNode, move_node};
-use iq_base::{Name, Refusal};
+use iq_base::{Locks, Name, Refusal};
 use iq_history::{Entry, History};
 use iq_model::Script;
 use iq_sessions::SessionTable;
@@ -97,6 +97,30 @@ impl Control {
         ensures { At s self.now.table.sessions (λ session. IsSnapshot self.now session result) }
     {
         self.nodes[self.table.node(s) as usize].position(self.latest)
+    }
+
+    /// A line's transaction gets the names that its write locks and that it doesn't hold; or nothing changes, and it is told what
+    /// refuses them: a halt; then the first that another session holds; then the first that was written past its snapshot.
+    pub fn lock(&mut self, s: u32, line: u32, names: Locks) -> Result<(), Refusal>
+        requires at { AtLine self.old s line (AsksLock names) }
+        requires few { At s self.old.table.sessions (HasHoldRoom names) }
+        ensures ok { OnOk result (self.new ≡ locked_more s line names self.old) }
+        ensures not_halted { OnOk result (self.old.halted ≡ None) }
+        ensures free { OnOk result (At s self.old.table.sessions (AreFree self.old s names)) }
+        ensures err { IfErr result (λ cause. At s self.old.table.sessions (AreNotFree self.old s names cause)) }
+        ensures unchanged { OnErr result (self.new ≡ self.old) }
+    {
+        if let Some(commit) = self.halted {
+            return Err(Refusal::Halted { commit });
+        }
+        let snapshot = snapshot_of(self.table.snapshot(s));
+        match self.table.lock(s, &names, snapshot) {
+            Ok(()) => {
+                self.history.push(Entry::Lock { s, l: line, names });
+                Ok(())
+            }
+            Err(cause) => Err(cause),
+        }
     }
 
     /// The statement of a line took effect, and created a table or none.
@@ -217,6 +241,16 @@ impl Control {
             l: line,
             name: name.again(),
         });
+    }
+}
+
+/// The snapshot of a transaction, if there is one.
+fn snapshot_of(snapshot: Option<u64>) -> u64
+    ensures { result ≡ unwrap_or snapshot 0 }
+{
+    match snapshot {
+        None => 0,
+        Some(c) => c,
     }
 }
 
