@@ -3,3 +3,4 @@ pub mod Left
 pub mod Turns
 pub mod Refused
 pub mod Commits
+pub mod Fresh

@@ -1,5 +1,5 @@
 -- Sessions of the replayed state without tables and answers: what is left of them where no table is kept.
-use Rattle.std.specs.Prelude.{ℕ, List, [], Option, None, map, IsSomeAnd}
+use Rattle.std.specs.Prelude.{ℕ, Bool, true, false, List, [], Option, None, map, IsSomeAnd}
 use Rattle.std.specs.List.{slice_get}
 use Rattle.iq_replay.specs.State.{Work, Save, Run, Standing, idle, lost, running, Session}
 
@@ -24,3 +24,9 @@ bare_session session = record session { standing = bare_standing session.standin
 -- the session at a place is there, and is such
 abbrev pub At : ℕ → List Session → (Session → Type 0) → Type 0
 At place sessions P = IsSomeAnd (slice_get sessions place) P
+
+-- whether a transaction was lost
+abbrev pub was_lost : Standing → Bool
+was_lost idle = false
+was_lost lost = true
+was_lost (running run) = false

@@ -3,6 +3,7 @@ ghost use Rattle.std.specs.Prelude.{◌≡◌, ◌≤◌, ◌<◌, ◌+◌, ◌+
 ghost use Rattle.std.specs.Option.{option_copied};
 ghost use Rattle.iq_base.specs.Locks.{catalog_name, table_locks};
 ghost use Rattle.iq_locks.specs.Locked.{held_at, holding, lock_refusal, wanted};
+ghost use Rattle.iq_replay.specs.State.{has_name};
 ghost use Rattle.iq_sessions.specs.Table.{WritesAll};
 
 use iq_base::{Locks, Name, Refusal};
@@ -13,6 +14,13 @@ pub(crate) fn catalog() -> Name
     ensures { result ≡ catalog_name }
 {
     Name::of("catalog").unwrap()
+}
+
+/// Whether a list has a name.
+pub(crate) fn has_name(names: &[Name], name: &Name) -> bool
+    ensures { result ≡ has_name names.now name.now }
+{
+    names.iter().any(|n| n == name)
 }
 
 /// A session gets the names that it doesn't hold, or nothing changes.

@@ -1,18 +1,19 @@
 //! All sessions of a run, and the names that they hold.
-ghost use Rattle.std.specs.Prelude.{◌≡◌, ◌≤◌, ◌<◌, ◌+◌, length, Some, None, IfOk, OnOk, OnErr, IfErr};
+ghost use Rattle.std.specs.Prelude.{◌≡◌, ◌≤◌, ◌<◌, ◌+◌, ◌^◌, length, Some, None, IfOk, OnOk, OnErr, IfErr};
 ghost use Rattle.iq_base.specs.Locks.{table_locks};
-ghost use Rattle.iq_replay.specs.State.{held_by};
+ghost use Rattle.iq_replay.specs.State.{held_by, has_name};
 ghost use Rattle.iq_replay.specs.Changes.{ends_run, locks_more};
 ghost use Rattle.iq_replay.specs.Lines.{runs};
+ghost use Rattle.iq_sessions.specs.Bare.{was_lost};
 ghost use Rattle.iq_replay.specs.Nodes.{snapshot_of};
 ghost use Rattle.iq_sessions.specs.Bare.{At};
 ghost use Rattle.iq_sessions.specs.Kept.{IsKeptAs};
 ghost use Rattle.iq_sessions.specs.Changes.{begins_at, takes, refuses, ends_both, saves, goes_back, releases};
-ghost use Rattle.iq_sessions.specs.Table.{AsksBegin, AsksOpen, AsksSave, AsksLock, AsksCommit, HasLine, CommitsAt, with_at, noting, noted_at, wanted_of, wanted_refusal};
+ghost use Rattle.iq_sessions.specs.Table.{AreCounted, IsFresh, fresh_kepts, AsksBegin, AsksOpen, AsksSave, AsksLock, AsksCommit, HasLine, CommitsAt, with_at, noting, noted_at, wanted_of, wanted_refusal};
 
-use crate::locking::{acquire, write_names};
+use crate::locking::{acquire, has_name, write_names};
 use crate::session::{Session, TransactionState};
-use iq_base::{Locks, Name, NoMemory, Refusal};
+use iq_base::{Locks, Name, NoMemory, Refusal, SessionSpec};
 use iq_locks::LockTable;
 use iq_model::Script;
 use std::alloc::Global;
@@ -41,6 +42,22 @@ impl Model for SessionTable {
 }
 
 impl SessionTable {
+    /// The sessions of a script before their first lines. It takes the room for all names that they will hold.
+    pub fn opened(alloc: Global, script: &Script) -> Result<SessionTable, NoMemory>
+        requires counted { AreCounted 0 script.now.lines script.now.sessions }
+        requires few { length script.now.sessions < 2 ^ 32 }
+        ensures { IfOk result (IsFresh script.now) }
+    {
+        let specs = script.sessions.as_slice();
+        let sessions = fresh_sessions(alloc, script, specs)?;
+        let locks = LockTable::unlocked(alloc, specs.len() as u32)?;
+        Ok(SessionTable {
+            sessions,
+            locks,
+            noted: 0,
+        })
+    }
+
     /// The session at a place.
     pub fn session(&self, s: u32) -> &Session
         requires { s < length self.now.sessions }
@@ -198,6 +215,25 @@ impl SessionTable {
         }
     }
 
+    /// Whether a transaction was ended by a restart or an exclusion of its node.
+    pub fn is_lost(&self, s: u32) -> bool
+        requires { s < length self.now.sessions }
+        ensures { At s self.now.sessions (λ session. result ≡ was_lost session.standing) }
+    {
+        match self.session(s).transaction() {
+            TransactionState::Lost => true,
+            TransactionState::Idle | TransactionState::Running(_) => false,
+        }
+    }
+
+    /// Whether a transaction holds a name.
+    pub fn holds(&self, s: u32, name: &Name) -> bool
+        requires { s < length self.now.sessions }
+        ensures { At s self.now.sessions (λ session. result ≡ has_name (held_by session.standing) name.now) }
+    {
+        has_name(self.held(s), name)
+    }
+
     /// The node of a session.
     pub fn node(&self, s: u32) -> u32
         requires { s < length self.now.sessions }
@@ -212,4 +248,21 @@ impl SessionTable {
     {
         self.sessions.len() as u32
     }
+}
+
+/// The sessions before their first lines.
+fn fresh_sessions(
+    alloc: Global,
+    script: &Script,
+    specs: &[SessionSpec],
+) -> Result<Vec<Session>, NoMemory>
+    requires counted { AreCounted 0 script.now.lines specs.now }
+    requires few { length specs.now < 2 ^ 32 }
+    ensures { IfOk result (λ sessions. sessions.items ≡ fresh_kepts script.now 0 specs.now) }
+{
+    let mut sessions = Vec::new(alloc);
+    for (place, spec) in specs.iter().enumerate() {
+        sessions.push(Session::fresh(script, place as u32, spec))?;
+    }
+    Ok(sessions)
 }
