@@ -7,3 +7,4 @@ pub mod Follows
 pub mod Due
 pub mod Moves
 pub mod Locks
+pub mod Opened

@@ -1,20 +1,25 @@
 //! The control of a run.
-ghost use Rattle.std.specs.Prelude.{◌≡◌, ◌<◌, ◌+◌, ⊤, true, false, length, unwrap_or, None, OnOk, OnErr, IfErr};
+ghost use Rattle.std.specs.Prelude.{◌≡◌, ◌<◌, ◌+◌, ⊤, true, false, length, unwrap_or, None, IfOk, OnOk, OnErr, IfErr};
 ghost use Rattle.iq_base.specs.Locks.{table_locks};
 ghost use Rattle.iq_ast.specs.declared.statements.Statement.TheVariants as statements;
 ghost use Rattle.iq_history.specs.Placed.{IsPlacedRefusal};
 ghost use Rattle.iq_replay.specs.Causes.{faults_after};
 ghost use Rattle.iq_replay.specs.Lines.{runs};
-ghost use Rattle.iq_sessions.specs.Bare.{At};
+ghost use Rattle.iq_replay.specs.Nodes.{snapshot_of};
+ghost use Rattle.iq_replay.specs.State.{held_by, has_name};
+ghost use Rattle.iq_sessions.specs.Bare.{At, was_lost};
+ghost use Rattle.iq_control.specs.Opened.{IsControllable, IsOpened};
 ghost use Rattle.iq_sessions.specs.Table.{AsksOpen, AsksSave, AsksCommit, CommitsAt, noted_at};
 ghost use Rattle.iq_control.specs.Asked.{AtLine, IsSnapshot, AsksBegin, AsksLock, AsksTake, AreFree, AreNotFree, HasHoldRoom, AsksEnd, AsksRun};
 ghost use Rattle.iq_control.specs.Changes.{begun, locked_more, took, refused_line, committed_at, ended, rolled_back, rolled_at_end, halted_at, saved, went_back, released};
 
 use crate::nodes::{ControlNode, move_node};
-use iq_base::{Locks, Name, Refusal};
+use crate::opening::{fresh_nodes, history_for};
+use iq_base::{Locks, Name, NoMemory, Refusal};
 use iq_history::{Entry, History};
 use iq_model::Script;
 use iq_sessions::SessionTable;
+use std::alloc::Global;
 use std::marker::Model;
 use std::snapshot::Snapshot;
 
@@ -56,6 +61,27 @@ impl Model for Control {
 }
 
 impl Control {
+    /// The control of a script before its first entry. It takes the room for the entries of all lines, and for all names that
+    /// sessions hold, so that no later call takes memory for these.
+    pub fn opened(alloc: Global, script: &Script) -> Result<Control, NoMemory>
+        requires { IsControllable script.now }
+        ensures { IfOk result (IsOpened script.now) }
+    {
+        let history = history_for(alloc, script)?;
+        let nodes = fresh_nodes(alloc, script.nodes.as_slice())?;
+        let table = SessionTable::opened(alloc, script)?;
+        Ok(Control {
+            script: Snapshot::of(script),
+            history,
+            latest: 0,
+            halted: None,
+            faults: 0,
+            closing: false,
+            nodes,
+            table,
+        })
+    }
+
     /// The history so far.
     pub fn history(&self) -> &History
         ensures { result.now.entries ≡ self.now.entries }
@@ -68,6 +94,38 @@ impl Control {
         ensures { result ≡ self.now.latest }
     {
         self.latest
+    }
+
+    /// Whether a session's transaction runs.
+    pub fn running(&self, s: u32) -> bool
+        requires { s < length self.now.table.sessions }
+        ensures { At s self.now.table.sessions (λ session. result ≡ runs session.standing) }
+    {
+        self.table.runs(s)
+    }
+
+    /// Whether a session's transaction was ended by a restart or an exclusion of its node.
+    pub fn lost(&self, s: u32) -> bool
+        requires { s < length self.now.table.sessions }
+        ensures { At s self.now.table.sessions (λ session. result ≡ was_lost session.standing) }
+    {
+        self.table.is_lost(s)
+    }
+
+    /// Whether a session's transaction holds a name.
+    pub fn holds(&self, s: u32, name: &Name) -> bool
+        requires { s < length self.now.table.sessions }
+        ensures { At s self.now.table.sessions (λ session. result ≡ has_name (held_by session.standing) name.now) }
+    {
+        self.table.holds(s, name)
+    }
+
+    /// The snapshot of a session's running transaction.
+    pub fn snapshot(&self, s: u32) -> Option<u64>
+        requires { s < length self.now.table.sessions }
+        ensures { At s self.now.table.sessions (λ session. result ≡ snapshot_of session.standing) }
+    {
+        self.table.snapshot(s)
     }
 
     /// The line's transaction, which holds no name, ends.

@@ -4,7 +4,11 @@ ghost use Rattle.iq_base.specs.Shorts.{Name};
 ghost use Rattle.iq_base.specs.declared.refusals.Refusal.{Refusal};
 ghost use Rattle.iq_base.specs.declared.refusals.Refusal.TheVariants as refusals;
 ghost use Rattle.iq_ast.specs.declared.statements.Statement.TheVariants as statements;
+ghost use Rattle.iq_model.specs.declared.scripts.Script.{Script};
+ghost use Rattle.iq_statements.specs.Tables.{Database};
 ghost use Rattle.iq_replay.specs.State.{State};
+ghost use Rattle.iq_replay.specs.Start.{start};
+ghost use Rattle.iq_control.specs.Opened.{IsOpened};
 ghost use Rattle.iq_replay.specs.Asked.{OfLine, IsOpen, Rises};
 ghost use Rattle.iq_replay.specs.Causes.{CanRefuse, IsWorking};
 ghost use Rattle.iq_replay.specs.Histories.{replay};
@@ -14,6 +18,12 @@ ghost use Rattle.iq_sessions.specs.Table.{TableState, CommitsAt};
 ghost use Rattle.iq_control.specs.Control.{ControlState, Agrees, Follows};
 ghost use Rattle.iq_control.specs.Changes.{begun, locked_more, took, refused_line, committed_at, ended, rolled_back, rolled_at_end, halted_at, saved, went_back, released};
 ghost use Rattle.iq_control.specs.Asked.{AtLine, IsSnapshot, AsksBegin, AsksLock, AsksTake, AsksEnd, AsksRun, AreFree, AreRefused, IsNotAdmitted, HasLost, IsWriting, IsHaltedCommit, IsNamed, IsUnrefused};
+
+/// The control of a script before the first entry follows from any tables.
+pub fn the_control_follows_an_opening()
+    ensures { (blocks : ℕ) (told : Bool) (script : Script) (opening : Database) (c : ControlState) → IsOpened script c
+        → Follows (start blocks told script opening) c }
+{}
 
 /// A transaction begins at its node's position, where nothing before a statement's own tests refuses the line.
 pub fn the_control_follows_a_begin()
