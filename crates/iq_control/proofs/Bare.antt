@@ -1,8 +1,8 @@
 -- A session without tables and answers changes as the session does.
-use Rattle.std.specs.Prelude.{◌≡◌, refl, ⊤, ℕ, zero, suc, Bool, true, false, List, [], ◌∷◌, ◌++◌, Option, Some, None, map, drop, is_none, is_some, if◌then◌else◌}
+use Rattle.std.specs.Prelude.{◌≡◌, refl, ⊤, ℕ, zero, suc, Bool, true, false, List, [], ◌∷◌, Some, map, drop, if◌then◌else◌}
 use Rattle.std.specs.List.{slice_get}
 use Rattle.std.specs.Option.{option_map}
-use Rattle.std.proofs.Common.{ap, sym, ◌∙◌, append-nil}
+use Rattle.std.proofs.Common.{ap, append-nil}
 use Rattle.iq_base.specs.Shorts.{Name}
 use Rattle.iq_base.specs.declared.refusals.Refusal.{Refusal}
 use Rattle.iq_ast.specs.declared.statements.Statement.{Statement}
@@ -13,7 +13,7 @@ use Rattle.iq_statements.specs.Statements.{creates, Begins}
 use Rattle.iq_conditions.specs.Servers.{same_name}
 use Rattle.iq_replay.specs.State.{Session, done, Standing, idle, lost, running, Run, Save, changed_at}
 use Rattle.iq_replay.specs.Causes.{tells_lost}
-use Rattle.iq_replay.specs.Changes.{begins, locks_more, takes_effect, took_effect, took_own, took_for_all, refused, commits, ends, rolls_back, ends_line, ends_run, works, saves_as, back_to, release_to, saves_from, seen_at, after_refusal}
+use Rattle.iq_replay.specs.Changes.{begins, locks_more, takes_effect, took_effect, took_own, took_for_all, refused, commits, ends, rolls_back, ends_line, ends_run, works, saves_as, back_to, release_to, saves_from, after_refusal}
 use Rattle.iq_sessions.specs.Bare.{bare_session, bare_standing, bare_run, bare_save, bare_work}
 use Rattle.iq_sessions.specs.Changes as bare
 use Rattle.iq_control.specs.Asked.{is_own}

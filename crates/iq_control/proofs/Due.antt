@@ -1,5 +1,5 @@
 -- Each entry of a line takes one of those that are due.
-use Rattle.std.specs.Prelude.{◌≡◌, ◌≤◌, ◌<◌, ◌^◌, refl, ⊤, ℕ, zero, suc, ◌+◌, ◌*◌, Bool, true, false, List, [], ◌∷◌, ◌++◌, Option, Some, None, length, drop, IsSomeAnd, if◌then◌else◌}
+use Rattle.std.specs.Prelude.{◌≡◌, ◌≤◌, ◌<◌, ◌^◌, refl, ℕ, zero, suc, ◌+◌, Bool, true, false, List, [], ◌∷◌, Option, Some, None, length, drop, IsSomeAnd, if◌then◌else◌}
 use Rattle.std.specs.List.{slice_get, AllByRecursion}
 use Rattle.std.proofs.Common.{arith, ap, sym, ◌∙◌}
 use Rattle.iq_base.specs.Shorts.{Name}
@@ -18,9 +18,7 @@ use Rattle.iq_replay.specs.Changes.{ends_run, on_run, works, holds_more, locks_m
 use Rattle.iq_sessions.specs.Bare.{At}
 use Rattle.iq_sessions.specs.Changes.{ends_line, begins_at, creates_more, keeps_work, took, takes, refuses, ends_both}
 use Rattle.iq_sessions.specs.Table.{TableState}
-use Rattle.iq_control.specs.Control.{ControlState}
-use Rattle.iq_control.specs.Asked.{AtLine}
-use Rattle.iq_control.specs.Due.{stage_due, line_due, standing_due, due, all_due, IsControl}
+use Rattle.iq_control.specs.Due.{line_due, standing_due, due, all_due, IsControl}
 
 -- THE SESSION OF A LINE
 

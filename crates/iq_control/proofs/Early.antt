@@ -1,5 +1,5 @@
 -- The tests of a line that the control knows.
-use Rattle.std.specs.Prelude.{◌≡◌, refl, ℕ, Bool, true, false, List, [], ◌∷◌, ◌++◌, Option, Some, None, map, is_none, nat_le, length, filter, find}
+use Rattle.std.specs.Prelude.{◌≡◌, refl, ℕ, Bool, true, false, List, [], ◌∷◌, ◌++◌, Option, Some, None, map, is_none, nat_le}
 use Rattle.std.specs.List.{slice_get}
 use Rattle.std.specs.Option.{option_or}
 use Rattle.std.proofs.Common.{ap, sym, ◌∙◌}
@@ -12,7 +12,7 @@ use Rattle.iq_ast.specs.declared.statements.Statement.TheVariants as statements
 use Rattle.iq_conditions.specs.Servers.{same_name}
 use Rattle.iq_statements.specs.Checks.{Check, first_refusal, found_if}
 use Rattle.iq_replay.specs.State.{State, Session, Standing, idle, lost, running, Run, Save, Node}
-use Rattle.iq_replay.specs.Refusals.{lost_refusal, at_node, excluded_refusal, reader_refusal, before_line, save_named, no_save, full_saves, most_saves, transaction_refusal, halted_refusal, run_checks, line_checks}
+use Rattle.iq_replay.specs.Refusals.{lost_refusal, before_line, save_named, most_saves, transaction_refusal, halted_refusal, run_checks, line_checks}
 use Rattle.iq_sessions.specs.Bare.{bare_session, bare_standing, bare_run, bare_save}
 use Rattle.iq_control.specs.Asked.{early_checks, IsAdmitted}
 

@@ -20,7 +20,7 @@ use Rattle.iq_replay.specs.Commits.{database_of, latest_of, written_names, writt
 use Rattle.iq_replay.specs.Causes.{faults_after}
 use Rattle.iq_replay.specs.Changes.{statement_of, begins, locks_more, takes_effect, refused, commits, ends, rolls_back, ends_run, work_in, nodes_at}
 use Rattle.iq_replay.specs.Entries.{IsPossible, change}
-use Rattle.iq_replay.specs.Histories.{replay, IsLegal}
+use Rattle.iq_replay.specs.Histories.{replay}
 use Rattle.iq_replay.proofs.Histories.{replay-push, IsLegal-push}
 use Rattle.iq_sessions.specs.Changes as bare
 use Rattle.iq_replay.specs.Asked.{OfLine}
@@ -46,29 +46,57 @@ follows_next first old new e follows possible entries agrees =
 pub agrees_lock : (c : ControlState) (s : State) (place l : ℕ) (names : List Name) → Agrees c s → Agrees (locked_more place l names c) (change s (entries.Lock place l names))
 unfolding change
 agrees_lock c s place l names h =
-    record { latest = h.latest; halted = h.halted; faults = h.faults; closing = h.closing; nodes = h.nodes; wrote = h.wrote;
-      sessions = map_changed place (locks_more names) (locks_more names) s.sessions (λ session is. bare_lock names session) ∙ ap (changed_at place (locks_more names)) h.sessions }
+    record {
+      latest = h.latest;
+      halted = h.halted;
+      faults = h.faults;
+      closing = h.closing;
+      nodes = h.nodes;
+      wrote = h.wrote;
+      sessions = map_changed place (locks_more names) (locks_more names) s.sessions (λ session is. bare_lock names session) ∙ ap (changed_at place (locks_more names)) h.sessions;
+    }
 
 pub agrees_refused : (c : ControlState) (s : State) (place l : ℕ) (cause : Refusal) → Agrees c s → Agrees (refused_line place l cause c) (change s (entries.Refused (Some place) l cause))
 unfolding change
 agrees_refused c s place l cause h =
-    record { latest = h.latest; halted = h.halted; faults = ap (faults_after cause) h.faults; closing = h.closing; nodes = h.nodes; wrote = h.wrote;
-      sessions = map_changed place (refused l cause) (bare.refuses cause) s.sessions (λ session is. bare_refused l cause session) ∙ ap (changed_at place (bare.refuses cause)) h.sessions }
+    record {
+      latest = h.latest;
+      halted = h.halted;
+      faults = ap (faults_after cause) h.faults;
+      closing = h.closing;
+      nodes = h.nodes;
+      wrote = h.wrote;
+      sessions = map_changed place (refused l cause) (bare.refuses cause) s.sessions (λ session is. bare_refused l cause session) ∙ ap (changed_at place (bare.refuses cause)) h.sessions;
+    }
 
 pub agrees_end : (c : ControlState) (s : State) (place l : ℕ) → Agrees c s → Agrees (ended place l c) (change s (entries.End place l))
 unfolding change
 agrees_end c s place l h =
-    record { latest = h.latest; halted = h.halted; faults = h.faults; closing = h.closing; nodes = h.nodes; wrote = h.wrote;
-      sessions = map_changed place (ends l) bare.ends_both s.sessions (λ session is. bare_ends l session) ∙ ap (changed_at place bare.ends_both) h.sessions }
+    record {
+      latest = h.latest;
+      halted = h.halted;
+      faults = h.faults;
+      closing = h.closing;
+      nodes = h.nodes;
+      wrote = h.wrote;
+      sessions = map_changed place (ends l) bare.ends_both s.sessions (λ session is. bare_ends l session) ∙ ap (changed_at place bare.ends_both) h.sessions;
+    }
 
 pub agrees_begin : (c : ControlState) (s : State) (place l commit : ℕ) (session : Session) (statement : Statement) → Agrees c s → slice_get s.sessions place ≡ Some session
     → statement_of session.left ≡ Some statement → Begins statement → Agrees (begun place l (is_own statement) commit c) (change s (entries.Begin place l commit))
 unfolding change
 agrees_begin c s place l commit session statement h found at begins_it =
-    record { latest = h.latest; halted = h.halted; faults = h.faults; closing = h.closing; nodes = h.nodes; wrote = h.wrote;
+    record {
+      latest = h.latest;
+      halted = h.halted;
+      faults = h.faults;
+      closing = h.closing;
+      nodes = h.nodes;
+      wrote = h.wrote;
       sessions = map_changed place (λ (session : Session). begins (statement_of session.left) l commit (database_of s commit) session) (bare.begins_at (is_own statement) commit) s.sessions
           (λ other is. begin_here other (cc (found, is)))
-          ∙ ap (changed_at place (bare.begins_at (is_own statement) commit)) h.sessions }
+          ∙ ap (changed_at place (bare.begins_at (is_own statement) commit)) h.sessions;
+    }
   where
     begin_here : (other : Session) → other ≡ session → bare_session (begins (statement_of other.left) l commit (database_of s commit) other) ≡ bare.begins_at (is_own statement) commit (bare_session other)
     begin_here other q = rw (q, at) (bare_begins statement l commit (database_of s commit) session begins_it)
@@ -77,10 +105,17 @@ pub agrees_done : (c : ControlState) (s : State) (place l : ℕ) (session : Sess
     → statement_of session.left ≡ Some statement → CreatesAlone session.standing (creates statement) → Agrees (took place l (creates statement) c) (change s (entries.Done place l))
 unfolding change
 agrees_done c s place l session statement h found at alone =
-    record { latest = h.latest; halted = h.halted; faults = h.faults; closing = h.closing; nodes = h.nodes; wrote = h.wrote;
+    record {
+      latest = h.latest;
+      halted = h.halted;
+      faults = h.faults;
+      closing = h.closing;
+      nodes = h.nodes;
+      wrote = h.wrote;
       sessions = map_changed place (λ (session : Session). takes_effect (statement_of session.left) l session) (bare.takes (creates statement)) s.sessions
           (λ other is. take_here other (cc (found, is)))
-          ∙ ap (changed_at place (bare.takes (creates statement))) h.sessions }
+          ∙ ap (changed_at place (bare.takes (creates statement))) h.sessions;
+    }
   where
     take_here : (other : Session) → other ≡ session → bare_session (takes_effect (statement_of other.left) l other) ≡ bare.takes (creates statement) (bare_session other)
     take_here other q = rw (q, at) (bare_takes statement l session alone)
@@ -88,39 +123,81 @@ agrees_done c s place l session statement h found at alone =
 pub agrees_rollback : (c : ControlState) (s : State) (place l : ℕ) → Agrees c s → Agrees (rolled_back place (suc l) c) (change s (entries.Rollback place (suc l)))
 unfolding change
 agrees_rollback c s place l h =
-    record { latest = h.latest; halted = h.halted; faults = h.faults; closing = rw (ne_eqb (suc l) 0 (omega arith)) h.closing; nodes = h.nodes; wrote = h.wrote;
-      sessions = map_changed place (rolls_back (suc l)) bare.ends_both s.sessions (λ session is. bare_rolls l session) ∙ ap (changed_at place bare.ends_both) h.sessions }
+    record {
+      latest = h.latest;
+      halted = h.halted;
+      faults = h.faults;
+      closing = rw (ne_eqb (suc l) 0 (omega arith)) h.closing;
+      nodes = h.nodes;
+      wrote = h.wrote;
+      sessions = map_changed place (rolls_back (suc l)) bare.ends_both s.sessions (λ session is. bare_rolls l session) ∙ ap (changed_at place bare.ends_both) h.sessions;
+    }
 
 pub agrees_close : (c : ControlState) (s : State) (place : ℕ) → Agrees c s → Agrees (rolled_at_end place c) (change s (entries.Rollback place 0))
 unfolding change
 agrees_close c s place h =
-    record { latest = h.latest; halted = h.halted; faults = h.faults; closing = refl; nodes = h.nodes; wrote = h.wrote;
-      sessions = map_changed place (rolls_back 0) ends_run s.sessions (λ session is. bare_rolls_at_end session) ∙ ap (changed_at place ends_run) h.sessions }
+    record {
+      latest = h.latest;
+      halted = h.halted;
+      faults = h.faults;
+      closing = refl;
+      nodes = h.nodes;
+      wrote = h.wrote;
+      sessions = map_changed place (rolls_back 0) ends_run s.sessions (λ session is. bare_rolls_at_end session) ∙ ap (changed_at place ends_run) h.sessions;
+    }
 
 pub agrees_halt : (c : ControlState) (s : State) (place l before after : ℕ) → Agrees c s → Agrees (halted_at place l before after c) (change s (entries.Halt place l (c.latest + 1) before after))
 unfolding change
 agrees_halt c s place l before after h =
-    record { latest = h.latest; halted = refl; faults = refl; closing = h.closing; nodes = h.nodes; wrote = h.wrote;
+    record {
+      latest = h.latest;
+      halted = refl;
+      faults = refl;
+      closing = h.closing;
+      nodes = h.nodes;
+      wrote = h.wrote;
       sessions = map_changed place (refused l (refusals.StoreFault before after)) (bare.refuses (refusals.StoreFault before after)) s.sessions (λ session is. bare_refused l (refusals.StoreFault before after) session)
-          ∙ ap (changed_at place (bare.refuses (refusals.StoreFault before after))) h.sessions }
+          ∙ ap (changed_at place (bare.refuses (refusals.StoreFault before after))) h.sessions;
+    }
 
 pub agrees_save : (c : ControlState) (s : State) (place l : ℕ) (name : Name) → Agrees c s → Agrees (saved place l name c) (change s (entries.Savepoint place l name))
 unfolding change
 agrees_save c s place l name h =
-    record { latest = h.latest; halted = h.halted; faults = h.faults; closing = h.closing; nodes = h.nodes; wrote = h.wrote;
-      sessions = map_changed place _ (bare.saves name) s.sessions (λ session is. bare_saves l (said.Saved name) name session) ∙ ap (changed_at place (bare.saves name)) h.sessions }
+    record {
+      latest = h.latest;
+      halted = h.halted;
+      faults = h.faults;
+      closing = h.closing;
+      nodes = h.nodes;
+      wrote = h.wrote;
+      sessions = map_changed place _ (bare.saves name) s.sessions (λ session is. bare_saves l (said.Saved name) name session) ∙ ap (changed_at place (bare.saves name)) h.sessions;
+    }
 
 pub agrees_back : (c : ControlState) (s : State) (place l : ℕ) (name : Name) → Agrees c s → Agrees (went_back place l name c) (change s (entries.Back place l name))
 unfolding change
 agrees_back c s place l name h =
-    record { latest = h.latest; halted = h.halted; faults = h.faults; closing = h.closing; nodes = h.nodes; wrote = h.wrote;
-      sessions = map_changed place _ (bare.goes_back name) s.sessions (λ session is. bare_back l (said.BackTo name) name session) ∙ ap (changed_at place (bare.goes_back name)) h.sessions }
+    record {
+      latest = h.latest;
+      halted = h.halted;
+      faults = h.faults;
+      closing = h.closing;
+      nodes = h.nodes;
+      wrote = h.wrote;
+      sessions = map_changed place _ (bare.goes_back name) s.sessions (λ session is. bare_back l (said.BackTo name) name session) ∙ ap (changed_at place (bare.goes_back name)) h.sessions;
+    }
 
 pub agrees_release : (c : ControlState) (s : State) (place l : ℕ) (name : Name) → Agrees c s → Agrees (released place l name c) (change s (entries.Release place l name))
 unfolding change
 agrees_release c s place l name h =
-    record { latest = h.latest; halted = h.halted; faults = h.faults; closing = h.closing; nodes = h.nodes; wrote = h.wrote;
-      sessions = map_changed place _ (bare.releases name) s.sessions (λ session is. bare_release l (said.Released name) name session) ∙ ap (changed_at place (bare.releases name)) h.sessions }
+    record {
+      latest = h.latest;
+      halted = h.halted;
+      faults = h.faults;
+      closing = h.closing;
+      nodes = h.nodes;
+      wrote = h.wrote;
+      sessions = map_changed place _ (bare.releases name) s.sessions (λ session is. bare_release l (said.Released name) name session) ∙ ap (changed_at place (bare.releases name)) h.sessions;
+    }
 
 -- COMMITS
 

@@ -1,8 +1,8 @@
 -- The line of a session, in the control and in a state with which it agrees.
-use Rattle.std.specs.Prelude.{◌≡◌, refl, ℕ, false, List, [], ◌∷◌, Option, Some, None, IsSomeAnd, map}
+use Rattle.std.specs.Prelude.{◌≡◌, refl, ℕ, false, List, [], ◌∷◌, Option, Some, None, IsSomeAnd}
 use Rattle.std.specs.List.{slice_get}
 use Rattle.std.specs.Option.{option_map}
-use Rattle.std.proofs.Common.{ap, sym, ◌∙◌}
+use Rattle.std.proofs.Common.{◌∙◌}
 use Rattle.iq_ast.specs.declared.statements.Statement.{Statement}
 use Rattle.iq_model.specs.declared.scripts.Line.{Line}
 use Rattle.iq_model.specs.declared.scripts.Deed.{Deed}

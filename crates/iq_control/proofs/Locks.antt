@@ -1,12 +1,10 @@
 -- The names that a line's transaction locks.
-use Rattle.std.specs.Prelude.{◌≡◌, ◌≤◌, refl, ℕ, ◌+◌, Bool, true, false, not, List, [], ◌∷◌, Option, Some, None, filter, length, unwrap_or}
-use Rattle.std.specs.List.{slice_get}
-use Rattle.std.specs.Option.{option_or}
-use Rattle.std.proofs.Common.{arith, ap, sym, ◌∙◌}
+use Rattle.std.specs.Prelude.{◌≡◌, ◌≤◌, refl, ℕ, ◌+◌, Bool, true, false, List, [], ◌∷◌, Option, filter, length, unwrap_or}
+use Rattle.std.proofs.Common.{ap, sym}
 use Rattle.iq_base.specs.Shorts.{Name}
 use Rattle.iq_base.specs.declared.refusals.Refusal.{Refusal}
 use Rattle.iq_ast.specs.declared.statements.Statement.{Statement}
-use Rattle.iq_replay.specs.State.{Session, Standing, idle, lost, running, Run, not_held, held_by}
+use Rattle.iq_replay.specs.State.{Session, Standing, idle, lost, running, Run, not_held}
 use Rattle.iq_replay.specs.Nodes.{snapshot_of}
 use Rattle.iq_replay.specs.Refusals.{wanted}
 use Rattle.iq_replay.specs.Asked.{IsRunning, IsOpen, IsUnlocked}

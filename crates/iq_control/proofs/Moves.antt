@@ -1,7 +1,7 @@
 -- A session's node moves to a commit.
 use Rattle.std.specs.Prelude.{◌≡◌, ◌<◌, refl, ℕ, zero, suc, List, [], ◌∷◌, Some, length, slice_index_or, slice_set}
 use Rattle.std.specs.List.{slice_get, AllByRecursion}
-use Rattle.std.proofs.Common.{arith, ap, sym, ◌∙◌}
+use Rattle.std.proofs.Common.{arith, ap}
 use Rattle.iq_replay.specs.State.{Session, Node, changed_at, moved_to}
 use Rattle.iq_replay.specs.Changes.{nodes_at}
 use Rattle.iq_sessions.specs.Bare.{At}

@@ -1,21 +1,20 @@
 -- Where the control of a run starts.
-use Rattle.std.specs.Prelude.{◌≡◌, ◌≤◌, ◌<◌, ◌^◌, refl, ⊤, ℕ, zero, suc, ◌+◌, ◌*◌, Bool, List, [], ◌∷◌, map, length, filter}
+use Rattle.std.specs.Prelude.{◌≡◌, ◌<◌, refl, ℕ, suc, ◌+◌, ◌*◌, Bool, List, [], ◌∷◌, map, length, filter}
 use Rattle.std.specs.List.{AllByRecursion}
 use Rattle.std.proofs.Common.{arith, ap, sym, ◌∙◌}
 use Rattle.std.proofs.lemmas.List.{length-map}
-use Rattle.iq_base.specs.declared.nodes.NodeSpec.{NodeSpec}
 use Rattle.iq_base.specs.declared.nodes.SessionSpec.{SessionSpec}
 use Rattle.iq_history.specs.State.{HistoryState}
 use Rattle.iq_model.specs.declared.scripts.Line.{Line}
 use Rattle.iq_model.specs.declared.scripts.Script.{Script}
 use Rattle.iq_statements.specs.Tables.{Database}
-use Rattle.iq_replay.specs.State.{State, Session, Node, fresh}
+use Rattle.iq_replay.specs.State.{Session, Node, fresh}
 use Rattle.iq_replay.specs.Start.{start, node_start, sessions_from, session_start, is_of}
 use Rattle.iq_replay.specs.Histories.{replay, IsLegal}
 use Rattle.iq_sessions.specs.Bare.{bare_session}
 use Rattle.iq_sessions.specs.Table.{TableState, AreCounted, IsFresh}
-use Rattle.iq_control.specs.Control.{ControlState, Agrees, Follows}
-use Rattle.iq_control.specs.Due.{due, all_due, line_due, IsControl}
+use Rattle.iq_control.specs.Control.{ControlState, Follows}
+use Rattle.iq_control.specs.Due.{all_due, line_due, IsControl}
 use Rattle.iq_control.specs.Opened.{entries_due, IsControllable, IsOpened, IsReady}
 
 fresh_due : (lines : List Line) → line_due fresh lines ≡ 5 * length lines

@@ -1,7 +1,6 @@
 -- The tests of a line below an order.
-use Rattle.std.specs.Prelude.{◌≡◌, refl, ℕ, Bool, true, false, List, [], ◌∷◌, ◌++◌, Option, Some, None, nat_lt}
-use Rattle.std.specs.List.{AllByRecursion, slice_get}
-use Rattle.std.specs.Option.{option_or}
+use Rattle.std.specs.Prelude.{◌≡◌, refl, ℕ, true, false, List, [], ◌∷◌, ◌++◌, Option, Some, None, nat_lt}
+use Rattle.std.specs.List.{AllByRecursion}
 use Rattle.std.proofs.Common.{ap, sym, ◌∙◌}
 use Rattle.iq_base.specs.Shorts.{Name}
 use Rattle.iq_ast.specs.declared.statements.Statement.{Statement}
@@ -13,7 +12,7 @@ use Rattle.iq_statements.specs.Tables.{Table, Database, table_of}
 use Rattle.iq_statements.specs.Named.{on_table, write_checks}
 use Rattle.iq_statements.specs.Room.{at_table, write_room}
 use Rattle.iq_statements.specs.Statements.{statement_checks, room_checks}
-use Rattle.iq_replay.specs.State.{State, Session, Standing, running, Run}
+use Rattle.iq_replay.specs.State.{State, Session, running, Run}
 use Rattle.iq_replay.specs.Refusals.{halted_refusal, asks_commits, locked_refusal, later_refusal, wanted, run_checks, line_checks, checks_below}
 use Rattle.iq_control.specs.Asked.{early_checks}
 use Rattle.iq_control.proofs.Early.{or_none, both_none, first_more}
@@ -96,8 +95,8 @@ pub low_found : (s : State) (place : ℕ) (session : Session) (statement : State
 low_found s place session statement run is h =
     let split = or_none (first_refusal (early_checks s.nodes session statement)) _ (sym (first_more (early_checks s.nodes session statement) (checks_below 7 (run_checks s place (running run) statement))) ∙ ap first_refusal (sym (early_seven s place session statement run is)) ∙ h) in
     let named = or_none (first_refusal (statement_checks statement run.start.seen)) _
-        (sym (first_more (statement_checks statement run.start.seen) (checks_below 7 (lock_checks s place statement run ++ room_checks statement run.start.seen)))
-         ∙ ap first_refusal (sym (low_seven (statement_checks statement run.start.seen) (lock_checks s place statement run ++ room_checks statement run.start.seen) (statement_checks-low statement run.start.seen))) ∙ split.1) in
+    (sym (first_more (statement_checks statement run.start.seen) (checks_below 7 (lock_checks s place statement run ++ room_checks statement run.start.seen)))
+    ∙ ap first_refusal (sym (low_seven (statement_checks statement run.start.seen) (lock_checks s place statement run ++ room_checks statement run.start.seen) (statement_checks-low statement run.start.seen))) ∙ split.1) in
     record { early = split.0; named = named.0 }
 
 pub granted_ten : (s : State) (place : ℕ) (session : Session) (statement : Statement) (run : Run) → session.standing ≡ running run → first_refusal (checks_below 7 (line_checks s place session statement)) ≡ None
@@ -105,7 +104,7 @@ pub granted_ten : (s : State) (place : ℕ) (session : Session) (statement : Sta
 granted_ten s place session statement run is h locks =
     let low = low_found s place session statement run is h in
     let rest : checks_below 10 (run_checks s place (running run) statement) ≡ statement_checks statement run.start.seen ++ lock_checks s place statement run =
-        low_ten (statement_checks statement run.start.seen) (lock_checks s place statement run ++ room_checks statement run.start.seen) (statement_checks-low statement run.start.seen)
-        ∙ ap (λ (xs : List Check). statement_checks statement run.start.seen ++ (lock_checks s place statement run ++ xs)) (high_ten (room_checks statement run.start.seen) (room_checks-high statement run.start.seen)) in
+    low_ten (statement_checks statement run.start.seen) (lock_checks s place statement run ++ room_checks statement run.start.seen) (statement_checks-low statement run.start.seen)
+    ∙ ap (λ (xs : List Check). statement_checks statement run.start.seen ++ (lock_checks s place statement run ++ xs)) (high_ten (room_checks statement run.start.seen) (room_checks-high statement run.start.seen)) in
     ap first_refusal (early_ten s place session statement run is)
     ∙ both_none (early_checks s.nodes session statement) (checks_below 10 (run_checks s place (running run) statement)) low.early (ap first_refusal rest ∙ both_none (statement_checks statement run.start.seen) (lock_checks s place statement run) low.named locks)

@@ -1,8 +1,8 @@
 -- An entry is possible in each state with which the control agrees.
-use Rattle.std.specs.Prelude.{◌≡◌, ◌<◌, refl, ⊤, ℕ, zero, suc, ◌+◌, Bool, true, false, ◌&&◌, List, [], ◌∷◌, ◌++◌, Option, Some, None, map, nat_eq, nat_lt, IsSomeAnd, is_some, if◌then◌else◌}
+use Rattle.std.specs.Prelude.{◌≡◌, refl, ⊤, ℕ, suc, ◌+◌, Bool, true, false, List, [], ◌∷◌, ◌++◌, Option, Some, None, map}
 use Rattle.std.specs.List.{slice_get}
 use Rattle.std.specs.Option.{option_or}
-use Rattle.std.proofs.Common.{arith, ap, sym, ◌∙◌, inl, inr}
+use Rattle.std.proofs.Common.{ap, sym, ◌∙◌, inl, inr}
 use Rattle.iq_base.specs.Shorts.{Name}
 use Rattle.iq_base.specs.declared.refusals.Refusal.{Refusal}
 use Rattle.iq_base.specs.declared.refusals.Refusal.TheVariants as refusals
@@ -12,13 +12,10 @@ use Rattle.iq_ast.specs.declared.statements.Write.{Write}
 use Rattle.iq_ast.specs.declared.statements.Write.TheVariants as writes
 use Rattle.iq_history.specs.declared.entries.Entry.TheVariants as entries
 use Rattle.iq_statements.specs.Checks.{Check, first_refusal, first_found, found_if}
-use Rattle.iq_statements.specs.Statements.{is_ddl, created_by, creates, IsWrite, Begins, statement_checks, room_checks}
-use Rattle.iq_locks.specs.Locked as locks
-use Rattle.iq_replay.specs.State.{State, Session, Standing, idle, lost, running, Run, Node, held_by, has_some, has_name}
-use Rattle.iq_replay.specs.Nodes.{node_position}
-use Rattle.iq_replay.specs.Commits.{latest_of}
-use Rattle.iq_replay.specs.Refusals.{lost_refusal, transaction_refusal, before_line, holder_from, locked_by, locked_refusal, later_refusal, wanted, run_checks, line_checks, checks_below, checks_but}
-use Rattle.iq_replay.specs.Asked.{OfLine, IsRunning, IsOpen, IsGranted, HoldsAll, Rises}
+use Rattle.iq_statements.specs.Statements.{is_ddl, created_by, creates, statement_checks, room_checks}
+use Rattle.iq_replay.specs.State.{State, Session, Standing, idle, lost, running, Run, held_by, has_some}
+use Rattle.iq_replay.specs.Refusals.{lost_refusal, transaction_refusal, before_line, holder_from, locked_refusal, later_refusal, wanted, run_checks, line_checks, checks_but}
+use Rattle.iq_replay.specs.Asked.{OfLine, IsRunning, IsOpen, HoldsAll, Rises}
 use Rattle.iq_replay.specs.Causes.{CanRefuse, IsWorking}
 use Rattle.iq_replay.specs.Lines.{CanEnd, first_running, runs}
 use Rattle.iq_replay.specs.Entries.{IsPossible}
@@ -26,10 +23,10 @@ use Rattle.iq_sessions.specs.Bare.{bare_session, bare_standing, bare_run, At}
 use Rattle.iq_sessions.specs.Table as table
 use Rattle.iq_sessions.specs.Table.{names_refusal}
 use Rattle.iq_control.specs.Control.{ControlState, Agrees}
-use Rattle.iq_control.specs.Asked.{AtLine, early_checks, IsAdmitted, IsSnapshot, AsksBegin, AsksLock, AsksTake, AsksEnd, AsksRun, AreFree, AreRefused, IsNotAdmitted, HasLost, IsWriting, IsHaltedCommit, IsNamed, IsUnrefused}
+use Rattle.iq_control.specs.Asked.{early_checks, IsSnapshot, AsksBegin, AsksLock, AsksTake, AsksEnd, AsksRun, AreFree, AreRefused, IsNotAdmitted, HasLost, IsWriting, IsHaltedCommit, IsNamed, IsUnrefused}
 use Rattle.iq_control.proofs.Bare.{CreatesAlone}
-use Rattle.iq_control.proofs.Lines.{LineAt, line_at, at_state, of_line, of_line_at}
-use Rattle.iq_control.proofs.Early.{early_bare, or_none, both_none, first_more, admitted_line, quiet_rollback, quiet_save, quiet_back, quiet_release, lost_bare}
+use Rattle.iq_control.proofs.Lines.{LineAt, at_state, of_line, of_line_at}
+use Rattle.iq_control.proofs.Early.{early_bare, or_none, first_more, admitted_line, quiet_rollback, quiet_save, quiet_back, quiet_release, lost_bare}
 use Rattle.iq_control.proofs.Orders.{lock_checks, low_found, granted_ten}
 
 -- STANDINGS
@@ -256,9 +253,12 @@ or_behind a b r p q = rw p q
 -- the first of the tests before a statement's own
 pub not_admitted : (c : ControlState) (s : State) (place l : ℕ) (cause : Refusal) → Agrees c s → LineAt s place l (IsNotAdmitted c cause) → OfLine s place l (CanRefuse s place cause)
 not_admitted c s place l cause h at_line =
-    of_line s place l _ (CanRefuse s place cause) at_line (inl (at_line.holds.0, inl (
-    first_more (early_checks s.nodes at_line.session at_line.statement) (run_checks s place at_line.session.standing at_line.statement)
-    ∙ or_first (first_refusal (early_checks s.nodes at_line.session at_line.statement)) _ cause (ap first_refusal (sym (early_bare s.nodes at_line.session at_line.statement)) ∙ rw h.nodes at_line.holds.1))))
+    of_line s place l _ (CanRefuse s place cause) at_line (inl (
+      at_line.holds.0,
+      inl (
+          first_more (early_checks s.nodes at_line.session at_line.statement) (run_checks s place at_line.session.standing at_line.statement)
+          ∙ or_first (first_refusal (early_checks s.nodes at_line.session at_line.statement)) _ cause (ap first_refusal (sym (early_bare s.nodes at_line.session at_line.statement)) ∙ rw h.nodes at_line.holds.1)),
+    ))
 
 pub was_lost : (c : ControlState) (s : State) (place l incarnation : ℕ) → Agrees c s → LineAt s place l (HasLost c incarnation) → OfLine s place l (CanRefuse s place (refusals.Lost incarnation))
 was_lost c s place l incarnation h at_line =
@@ -300,7 +300,7 @@ names_first s place session statement run cause is named halted names =
     let behind : first_refusal (lock_checks s place statement run ++ room_checks statement run.start.seen) ≡ Some cause = rw halted (or_more (first_found (locked_refusal s.sessions place) (wanted statement run)) (first_found (later_refusal s.wrote run.snapshot) (wanted statement run)) (first_refusal (room_checks statement run.start.seen)) cause names) in
     ap first_refusal (running_checks s place session statement run is)
     ∙ first_behind (early_checks s.nodes session statement) (run_checks s place (running run) statement) cause low.early
-      (first_behind (statement_checks statement run.start.seen) (lock_checks s place statement run ++ room_checks statement run.start.seen) cause low.named behind)
+    (first_behind (statement_checks statement run.start.seen) (lock_checks s place statement run ++ room_checks statement run.start.seen) cause low.named behind)
 
 run_of_line : (standing : Standing) (P : Run → Type 0) (R : Type 0) → IsRunning (bare_standing standing) P → ((run : Run) → standing ≡ running run → P (bare_run run) → R) → R
 run_of_line idle P R p more = absurd p
@@ -310,9 +310,12 @@ run_of_line (running run) P R p more = more run refl p
 -- a name that another session holds, or that was written past the snapshot
 pub names_refused : (c : ControlState) (s : State) (place l : ℕ) (cause : Refusal) → Agrees c s → LineAt s place l (AreRefused c place cause) → c.halted ≡ None → OfLine s place l (IsNamed s place) → OfLine s place l (CanRefuse s place cause)
 names_refused c s place l cause h at_line halted named =
-    of_line s place l _ (CanRefuse s place cause) at_line (inl (at_line.holds.stage, inl (
-    run_of_line at_line.session.standing _ _ at_line.holds.cause_is (λ run is refused.
-    names_first s place at_line.session at_line.statement run cause is (of_line_at s place l _ (IsNamed s place) at_line named) (h.halted ∙ halted) (sym (refused_names c s place run.snapshot (wanted at_line.statement run) h) ∙ refused)))))
+    of_line s place l _ (CanRefuse s place cause) at_line (inl (
+      at_line.holds.stage,
+      inl (
+          run_of_line at_line.session.standing _ _ at_line.holds.cause_is (λ run is refused.
+          names_first s place at_line.session at_line.statement run cause is (of_line_at s place l _ (IsNamed s place) at_line named) (h.halted ∙ halted) (sym (refused_names c s place run.snapshot (wanted at_line.statement run) h) ∙ refused))),
+    ))
 
 halted_first : (s : State) (place commit : ℕ) (standing : Standing) → s.halted ≡ Some commit → IsRunning (bare_standing standing) (λ run. has_some run.now.held ≡ true)
     → first_refusal (run_checks s place standing statements.Commit) ≡ Some (refusals.Halted commit)
@@ -323,7 +326,10 @@ halted_first s place commit (running run) halted p = rw (halted, p) refl
 -- COMMIT behind a halt
 pub commit_halted : (c : ControlState) (s : State) (place l commit : ℕ) → Agrees c s → LineAt s place l (IsHaltedCommit c) → c.halted ≡ Some commit → OfLine s place l (CanRefuse s place (refusals.Halted commit))
 commit_halted c s place l commit h at_line halted =
-    of_line s place l _ (CanRefuse s place (refusals.Halted commit)) at_line (inl (at_line.holds.stage, inl (
-    first_behind (early_checks s.nodes at_line.session at_line.statement) (run_checks s place at_line.session.standing at_line.statement) (refusals.Halted commit)
-      (ap first_refusal (sym (early_bare s.nodes at_line.session at_line.statement)) ∙ rw h.nodes at_line.holds.admitted)
-      (rw at_line.holds.same (halted_first s place commit at_line.session.standing (h.halted ∙ halted) at_line.holds.held)))))
+    of_line s place l _ (CanRefuse s place (refusals.Halted commit)) at_line (inl (
+      at_line.holds.stage,
+      inl (
+          first_behind (early_checks s.nodes at_line.session at_line.statement) (run_checks s place at_line.session.standing at_line.statement) (refusals.Halted commit)
+          (ap first_refusal (sym (early_bare s.nodes at_line.session at_line.statement)) ∙ rw h.nodes at_line.holds.admitted)
+          (rw at_line.holds.same (halted_first s place commit at_line.session.standing (h.halted ∙ halted) at_line.holds.held))),
+    ))

@@ -7,13 +7,12 @@ use Rattle.iq_base.specs.declared.refusals.Refusal.{Refusal}
 use Rattle.iq_base.specs.declared.refusals.Refusal.TheVariants as refusals
 use Rattle.iq_ast.specs.declared.statements.Statement.{Statement}
 use Rattle.iq_ast.specs.declared.statements.Statement.TheVariants as statements
-use Rattle.iq_model.specs.declared.scripts.Line.{Line}
 use Rattle.iq_statements.specs.Checks.{Check, first_refusal}
 use Rattle.iq_statements.specs.Statements.{IsOnTables, IsWrite, HasMeaning, Begins, creates}
-use Rattle.iq_replay.specs.State.{State, Session, Standing, idle, lost, running, Run, Node, fresh, has_some, held_by}
+use Rattle.iq_replay.specs.State.{State, Session, idle, Node, fresh, has_some, held_by}
 use Rattle.iq_replay.specs.Nodes.{node_position}
 use Rattle.iq_replay.specs.Refusals.{lost_refusal, at_node, excluded_refusal, transaction_refusal, before_line, reader_refusal, wanted, line_checks, checks_below, checks_but}
-use Rattle.iq_replay.specs.Asked.{FirstIs, StatementIs, IsRunning, IsOpen, IsUnlocked, HoldsAll, IsGranted, Rises}
+use Rattle.iq_replay.specs.Asked.{FirstIs, StatementIs, IsRunning, IsOpen, IsUnlocked, HoldsAll, IsGranted}
 use Rattle.iq_replay.specs.Lines.{CanEnd}
 use Rattle.iq_sessions.specs.Bare.{At}
 use Rattle.iq_sessions.specs.Table.{names_refusal}

@@ -1,10 +1,10 @@
 -- A session's commit in the table.
 use Rattle.std.specs.Prelude.{◌≡◌, ◌≤◌, ◌<◌, refl, ℕ, zero, suc, ◌+◌, ◌-◌, List, [], ◌∷◌, ◌++◌, length, slice_set, slice_index_or}
-use Rattle.std.proofs.Common.{arith, ap, sym, ◌∙◌, add_assoc}
+use Rattle.std.proofs.Common.{arith, ap, sym, ◌∙◌}
 use Rattle.iq_base.specs.Shorts.{Name}
 use Rattle.iq_base.specs.Locks.{table_locks}
 use Rattle.iq_locks.specs.Locked.{LockState, held_at, holding}
-use Rattle.iq_replay.specs.State.{Session, changed_at}
+use Rattle.iq_replay.specs.State.{changed_at}
 use Rattle.iq_replay.specs.Commits.{written_names}
 use Rattle.iq_replay.specs.Changes.{work_in}
 use Rattle.iq_sessions.specs.Changes.{ends_both}

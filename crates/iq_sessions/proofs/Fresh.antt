@@ -1,7 +1,6 @@
 -- The sessions before their first lines.
-use Rattle.std.specs.Prelude.{◌≡◌, ◌≤◌, ◌<◌, ◌^◌, refl, ⊤, ℕ, zero, suc, ◌+◌, List, [], ◌∷◌, length, replicate, filter}
-use Rattle.std.proofs.Common.{arith, ap, sym, ◌∙◌}
-use Rattle.iq_base.specs.Shorts.{Name}
+use Rattle.std.specs.Prelude.{◌≡◌, ◌<◌, ◌^◌, refl, ℕ, zero, suc, ◌+◌, List, [], ◌∷◌, length, replicate}
+use Rattle.std.proofs.Common.{arith, ap}
 use Rattle.iq_base.specs.declared.nodes.SessionSpec.{SessionSpec}
 use Rattle.iq_model.specs.declared.scripts.Script.{Script}
 use Rattle.iq_locks.specs.Locked.{LockState}

@@ -1,16 +1,13 @@
 -- What refuses names: of the table of locks, and of the sessions.
-use Rattle.std.specs.Prelude.{◌≡◌, refl, ℕ, ◌+◌, Bool, true, false, List, [], ◌∷◌, Option, Some, None, nat_eq, nat_lt, if◌then◌else◌}
-use Rattle.std.specs.Option.{option_or}
-use Rattle.std.proofs.Common.{ap, ◌∙◌, sym}
+use Rattle.std.specs.Prelude.{◌≡◌, refl, ℕ, ◌+◌, Bool, true, false, List, [], ◌∷◌, Option, Some, None, nat_lt, if◌then◌else◌}
 use Rattle.iq_base.specs.Shorts.{Name}
 use Rattle.iq_base.specs.declared.refusals.Refusal.{Refusal}
 use Rattle.iq_base.specs.declared.refusals.Refusal.TheVariants as refusals
 use Rattle.iq_statements.specs.Checks.{found_if, first_found}
 use Rattle.iq_locks.specs.Locked.{Written, latest_of, first_of, lock_refusal, locked_by, has_name}
 use Rattle.iq_locks.specs.Locked as locked
-use Rattle.iq_replay.specs.State.{held_by}
 use Rattle.iq_replay.specs.Refusals.{locked_refusal, holder_from}
-use Rattle.iq_sessions.specs.Kept.{KeptSession, session_of, standing_of, sessions_of}
+use Rattle.iq_sessions.specs.Kept.{KeptSession, sessions_of}
 use Rattle.iq_sessions.specs.Table.{AllFit, later_refusal, names_refusal}
 use Rattle.iq_sessions.proofs.Turns.{held_by-kept}
 
@@ -42,5 +39,7 @@ locked_same sessions held asks fit name = rw (holder_same 0 sessions held asks n
 pub refusal_same : (sessions : List KeptSession) (held : List (List Name)) (wrote : List Written) (asks snapshot : ℕ) (names : List Name) → AllFit sessions held
     → lock_refusal held wrote asks snapshot names ≡ names_refusal (sessions_of sessions held) wrote asks snapshot names
 refusal_same sessions held wrote asks snapshot names fit =
-    rw (first_same (locked.locked_refusal held asks) (locked_refusal (sessions_of sessions held) asks) names (locked_same sessions held asks fit),
-        first_same (locked.later_refusal wrote snapshot) (later_refusal wrote snapshot) names (λ n. by_mark (nat_lt snapshot (latest_of n wrote)) (refusals.Later n (latest_of n wrote)))) refl
+    rw (
+      first_same (locked.locked_refusal held asks) (locked_refusal (sessions_of sessions held) asks) names (locked_same sessions held asks fit),
+      first_same (locked.later_refusal wrote snapshot) (later_refusal wrote snapshot) names (λ n. by_mark (nat_lt snapshot (latest_of n wrote)) (refusals.Later n (latest_of n wrote))),
+    ) refl

@@ -4,7 +4,6 @@ use Rattle.std.proofs.Math.Seq.{take-length}
 use Rattle.std.proofs.Common.{arith}
 use Rattle.iq_base.specs.Shorts.{Name}
 use Rattle.iq_conditions.specs.Servers.{same_name}
-use Rattle.iq_replay.specs.State.{Save}
 use Rattle.iq_replay.specs.Changes.{saves_from}
 use Rattle.iq_sessions.specs.declared.session.Transaction.{Transaction}
 use Rattle.iq_sessions.specs.declared.session.TransactionState.TheVariants as transactions

@@ -1,18 +1,18 @@
 -- One session of the table is changed.
-use Rattle.std.specs.Prelude.{◌≡◌, ◌≤◌, ◌<◌, ◌^◌, refl, ⊤, true, ℕ, zero, suc, ◌+◌, List, [], ◌∷◌, Some, map, length, sum, slice_set, slice_index_or, IsSomeAnd}
+use Rattle.std.specs.Prelude.{◌≡◌, ◌≤◌, ◌<◌, refl, true, ℕ, zero, suc, ◌+◌, List, [], ◌∷◌, Some, length, slice_set, slice_index_or}
 use Rattle.std.specs.List.{slice_get}
-use Rattle.std.proofs.Common.{arith, ap, sym, ◌∙◌}
+use Rattle.std.proofs.Common.{arith, ap, sym}
 use Rattle.std.proofs.lemmas.List.{length-map}
 use Rattle.iq_base.specs.Shorts.{Name}
 use Rattle.iq_locks.specs.Locked.{LockState, held_at, holding}
 use Rattle.iq_replay.specs.Asked.{IsRunning}
 use Rattle.iq_replay.specs.Changes.{ends_run}
-use Rattle.iq_replay.specs.State.{Session, Standing, Run, idle, not_held, changed_at, held_by}
+use Rattle.iq_replay.specs.State.{Session, Run, idle, not_held, changed_at, held_by}
 use Rattle.iq_sessions.specs.declared.session.TransactionState.{TransactionState}
 use Rattle.iq_sessions.specs.declared.session.TransactionState.TheVariants as transactions
 use Rattle.iq_sessions.specs.Bare.{At}
 use Rattle.iq_sessions.specs.Kept.{KeptSession, session_of, standing_of, save_of, sessions_of, HoldsFit, HasFewSaves, idled, runs_now, Turns, IsKeptAs}
-use Rattle.iq_sessions.specs.Table.{TableState, IsTable, AllFit, HasSaveRoom, CanHoldMore, AsksLock, noted_of, table_of, with_at}
+use Rattle.iq_sessions.specs.Table.{IsTable, AllFit, HasSaveRoom, CanHoldMore, AsksLock, noted_of, table_of, with_at}
 
 -- LISTS
 

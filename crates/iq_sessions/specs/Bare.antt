@@ -1,5 +1,5 @@
 -- Sessions of the replayed state without tables and answers: what is left of them where no table is kept.
-use Rattle.std.specs.Prelude.{ℕ, Bool, true, false, List, [], Option, None, map, IsSomeAnd}
+use Rattle.std.specs.Prelude.{ℕ, Bool, true, false, List, [], None, map, IsSomeAnd}
 use Rattle.std.specs.List.{slice_get}
 use Rattle.iq_replay.specs.State.{Work, Save, Run, Standing, idle, lost, running, Session}
 

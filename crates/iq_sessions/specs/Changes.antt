@@ -1,9 +1,9 @@
 -- What an entry changes in a session without tables and answers.
-use Rattle.std.specs.Prelude.{ℕ, Bool, true, false, List, [], ◌++◌, Option, drop, if◌then◌else◌}
+use Rattle.std.specs.Prelude.{ℕ, Bool, true, false, List, [], ◌++◌, drop, if◌then◌else◌}
 use Rattle.iq_base.specs.Shorts.{Name}
 use Rattle.iq_base.specs.declared.refusals.Refusal.{Refusal}
-use Rattle.iq_replay.specs.State.{Session, Stage, fresh, begun, locked, done, Standing, idle, lost, running, Run, Work}
-use Rattle.iq_replay.specs.Changes.{ends_run, on_run, works, begin_run, begins_own, after_refusal, saves_as, saves_from, release_to}
+use Rattle.iq_replay.specs.State.{Session, fresh, done, Standing, idle, lost, running, Run}
+use Rattle.iq_replay.specs.Changes.{ends_run, works, begin_run, begins_own, after_refusal, saves_as, saves_from, release_to}
 
 -- the session goes on with its next line
 abbrev pub ends_line : Session → Session

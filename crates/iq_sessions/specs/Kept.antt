@@ -1,5 +1,5 @@
 -- How sessions are kept: beside each stand the names that it holds, in the table of locks.
-use Rattle.std.specs.Prelude.{◌≡◌, ◌≤◌, ◌<◌, ⊤, ℕ, ◌+◌, Bool, true, false, List, [], ◌∷◌, Option, None, map, length, take, drop, filter}
+use Rattle.std.specs.Prelude.{◌≡◌, ◌≤◌, ◌<◌, ⊤, ℕ, Bool, true, false, List, [], ◌∷◌, Option, None, map, length, take, drop, filter}
 use Rattle.iq_base.specs.Shorts.{Name}
 use Rattle.iq_base.specs.Locks.{table_locks}
 use Rattle.iq_base.specs.declared.nodes.SessionSpec.{SessionSpec}

@@ -1,5 +1,5 @@
 -- The sessions of a run with the names that they hold, as contracts see them, and what their calls leave.
-use Rattle.std.specs.Prelude.{◌≡◌, ◌≤◌, ◌<◌, ◌^◌, ⊤, ℕ, ◌+◌, nat_lt, Option, List, [], ◌∷◌, ◌++◌, replicate, slice_set, slice_index_or, map, length, filter, if◌then◌else◌}
+use Rattle.std.specs.Prelude.{◌≡◌, ◌≤◌, ◌<◌, ◌^◌, ⊤, ℕ, ◌+◌, nat_lt, Option, List, [], ◌∷◌, replicate, slice_set, slice_index_or, map, length, filter, if◌then◌else◌}
 use Rattle.iq_base.specs.Shorts.{Name}
 use Rattle.std.specs.Option.{option_or}
 use Rattle.iq_base.specs.declared.refusals.Refusal.{Refusal}

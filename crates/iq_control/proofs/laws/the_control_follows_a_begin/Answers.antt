@@ -1,4 +1,3 @@
-use Rattle.std.proofs.Common.{refl}
 use Rattle.iq_control.specs.Asked.{AsksBegin}
 use Rattle.iq_control.proofs.Lines.{line_at}
 use Rattle.iq_control.proofs.Follows.{follows_begin}

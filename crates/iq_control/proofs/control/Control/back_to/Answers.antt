@@ -1,10 +1,9 @@
-use Rattle.std.proofs.Common.{rules, arith, refl, sym, true, false, ◌≡◌, ◌<◌, length, ap}
-use Rattle.std.specs.Bool.{⊤}
+use Rattle.std.proofs.Common.{arith, refl, ◌≡◌, ap}
 use Rattle.iq_control.specs.Control.{ControlState}
 use Rattle.iq_control.specs.Asked.{AsksRun}
 use Rattle.iq_sessions.specs.Changes.{goes_back, back_to}
 use Rattle.iq_ast.specs.declared.statements.Statement.TheVariants as statements
-use Rattle.iq_control.proofs.Due.{line_here, found_in, place_within, some_due, has_room, has_number, stepped, due_ends, due_begin, same_begin, due_lock, due_works, due_refuse, due_take, same_take}
+use Rattle.iq_control.proofs.Due.{line_here, found_in, place_within, some_due, has_room, stepped, due_works}
 use Rattle.iq_control.proofs.control.Control.back_to.Goals as goal
 
 pub push-requires-clause-room : goal.push-requires-clause-room

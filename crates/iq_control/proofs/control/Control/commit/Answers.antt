@@ -1,13 +1,9 @@
-use Rattle.std.proofs.Common.{rules, arith, refl, sym, ◌∙◌, true, ◌≡◌, ◌<◌, ◌+◌, length, ap}
-use Rattle.std.specs.List.{slice_get}
-use Rattle.iq_replay.specs.State.{Session, changed_at, moved_to}
-use Rattle.iq_replay.specs.Changes.{nodes_at}
-use Rattle.iq_sessions.specs.Bare.{At}
+use Rattle.std.proofs.Common.{arith, refl, true, ◌≡◌, ◌+◌, ap}
 use Rattle.iq_sessions.specs.Changes.{ends_both}
 use Rattle.iq_control.specs.Control.{ControlState}
 use Rattle.iq_control.specs.Asked.{AsksEnd}
 use Rattle.iq_control.proofs.Due.{line_here, found_in, place_within, some_due, has_room, has_number, stepped, due_ends}
-use Rattle.iq_control.proofs.Moves.{nodes_moved, node_within, changed_long}
+use Rattle.iq_control.proofs.Moves.{changed_long}
 use Rattle.iq_control.proofs.control.Control.commit.Goals as goal
 
 pub overflow_add-c : goal.overflow_add-c

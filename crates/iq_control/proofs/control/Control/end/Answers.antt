@@ -1,9 +1,8 @@
-use Rattle.std.proofs.Common.{rules, arith, refl, sym, true, false, ◌≡◌, ◌<◌, length, ap}
-use Rattle.std.specs.Bool.{⊤}
+use Rattle.std.proofs.Common.{arith, refl, false, ◌≡◌, ap}
 use Rattle.iq_control.specs.Control.{ControlState}
 use Rattle.iq_control.specs.Asked.{AsksEnd}
 use Rattle.iq_sessions.specs.Changes.{ends_both}
-use Rattle.iq_control.proofs.Due.{line_here, found_in, place_within, some_due, has_room, has_number, stepped, due_ends, due_begin, same_begin, due_lock, due_works, due_refuse, due_take, same_take}
+use Rattle.iq_control.proofs.Due.{line_here, found_in, place_within, some_due, has_room, stepped, due_ends}
 use Rattle.iq_control.proofs.control.Control.end.Goals as goal
 
 pub push-requires-clause-room : goal.push-requires-clause-room

@@ -1,8 +1,7 @@
-use Rattle.std.proofs.Common.{rules, ◌<◌, ℕ, List, [], take, length}
-use Rattle.iq_locks.specs.Locked.{held_at}
+use Rattle.std.proofs.Common.{rules, ◌<◌, length}
 use Rattle.iq_sessions.specs.Table.{AsksBegin}
 use Rattle.iq_sessions.specs.Changes.{begins_at}
-use Rattle.iq_sessions.proofs.Turns.{as_many, within_kept, at_within, at_kept, fits_at, within_held, turned, turned_alone, no_names, idle_turns, save_room}
+use Rattle.iq_sessions.proofs.Turns.{within_kept, at_within, at_kept, fits_at, turned_alone, no_names}
 use Rattle.iq_sessions.proofs.session_table.SessionTable.begin.Goals as goal
 
 pub index_mut-requires : goal.index_mut-requires

@@ -1,4 +1,4 @@
-use Rattle.std.proofs.Common.{rules, arith, ◌≡◌, ◌≤◌, ◌<◌, ◌++◌, ℕ, List, [], length, ap, ◌∙◌}
+use Rattle.std.proofs.Common.{rules, arith, ◌≡◌, ◌≤◌, ◌<◌, ◌++◌, length, ap, ◌∙◌}
 use Rattle.std.specs.Option.{option_copied}
 use Rattle.iq_base.specs.Locks.{table_locks}
 use Rattle.iq_locks.specs.Locked.{held_at}
@@ -68,7 +68,7 @@ invariant_of-self c =
     let same = same_at c.self.inside.sessions.items c.args.s c.index_mut-session.result.now c.index-session.result.now kept c.index_mut-session.ensures.value c.index-session.ensures in
     let none : c.note.new.self ≡ record (c.index-session.result.now) { noted = 0 } = c.note.ensures ∙ ap (λ (k : KeptSession). record k { noted = 0 }) same in
     let ended = committed c.self.inside.sessions.items c.self.inside.locks c.write_names.new.locks c.self.inside.noted c.args.s c.index-session.result.now c.end.new.self _ c.self.invariant within c.index-session.ensures
-        (rw none at (c.end.ensures (held_at c.args.s c.self.inside.locks.held))) c.write_names.ensures.held c.write_names.ensures.room few in
+    (rw none at (c.end.ensures (held_at c.args.s c.self.inside.locks.held))) c.write_names.ensures.held c.write_names.ensures.room few in
     rw (c.drop_all.ensures, c.noted-noted.ensures) ended.table
 
 pub returns : goal.returns
@@ -82,7 +82,7 @@ returns c =
     let same = same_at c.self.inside.sessions.items c.args.s c.index_mut-session.result.now c.index-session.result.now kept c.index_mut-session.ensures.value c.index-session.ensures in
     let none : c.note.new.self ≡ record (c.index-session.result.now) { noted = 0 } = c.note.ensures ∙ ap (λ (k : KeptSession). record k { noted = 0 }) same in
     let ended = committed c.self.inside.sessions.items c.self.inside.locks c.write_names.new.locks c.self.inside.noted c.args.s c.index-session.result.now c.end.new.self _ c.self.invariant within c.index-session.ensures
-        (rw none at (c.end.ensures (held_at c.args.s c.self.inside.locks.held))) c.write_names.ensures.held c.write_names.ensures.room few in
+    (rw none at (c.end.ensures (held_at c.args.s c.self.inside.locks.held))) c.write_names.ensures.held c.write_names.ensures.room few in
     rw (← c.self.view_is, c.drop_all.ensures) (record {
       sessions = ended.sessions_are;
       noted = ended.noted_are;

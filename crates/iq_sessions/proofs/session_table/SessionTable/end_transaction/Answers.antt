@@ -1,7 +1,7 @@
-use Rattle.std.proofs.Common.{rules, ◌<◌, ℕ, List, [], take, length}
+use Rattle.std.proofs.Common.{rules, ◌<◌, [], length}
 use Rattle.iq_locks.specs.Locked.{held_at}
 use Rattle.iq_replay.specs.Changes.{ends_run}
-use Rattle.iq_sessions.proofs.Turns.{as_many, within_kept, at_within, at_kept, fits_at, within_held, turned, turned_alone, no_names, idle_turns, save_room}
+use Rattle.iq_sessions.proofs.Turns.{as_many, fits_at, within_held, turned, idle_turns}
 use Rattle.iq_sessions.proofs.session_table.SessionTable.end_transaction.Goals as goal
 
 pub index_mut-requires : goal.index_mut-requires

@@ -1,5 +1,3 @@
-use Rattle.std.proofs.Common.{◌≡◌, sym, ◌∙◌}
-use Rattle.iq_replay.specs.State.{Session, held_by}
 use Rattle.iq_sessions.proofs.Turns.{as_many, as_many_held, held_made}
 use Rattle.iq_sessions.proofs.session_table.SessionTable.held.Goals as goal
 

@@ -1,7 +1,6 @@
-use Rattle.std.proofs.Common.{rules, ◌≡◌, ◌<◌, ◌++◌, ℕ, List, [], Some, None, length, slice_set}
-use Rattle.iq_base.specs.Shorts.{Name}
+use Rattle.std.proofs.Common.{rules, ◌≡◌, ◌<◌, ◌++◌, Some, None, length, slice_set}
 use Rattle.iq_locks.specs.Locked.{held_at, wanted}
-use Rattle.iq_replay.specs.State.{not_held, held_by}
+use Rattle.iq_replay.specs.State.{not_held}
 use Rattle.iq_replay.specs.Changes.{locks_more}
 use Rattle.iq_sessions.specs.Kept.{sessions_of}
 use Rattle.iq_sessions.specs.Table.{AsksLock, table_of, with_at, names_refusal}

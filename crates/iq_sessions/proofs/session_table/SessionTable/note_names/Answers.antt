@@ -1,9 +1,8 @@
-use Rattle.std.proofs.Common.{rules, arith, ◌≡◌, ◌≤◌, ◌<◌, ◌+◌, ℕ, List, [], length, slice_set, refl}
-use Rattle.iq_base.specs.Shorts.{Name}
+use Rattle.std.proofs.Common.{rules, arith, ◌≡◌, ◌≤◌, ◌<◌, ◌+◌, length, slice_set}
 use Rattle.iq_locks.specs.Locked.{held_at}
-use Rattle.iq_sessions.specs.Table.{table_of, noting, noted_of}
+use Rattle.iq_sessions.specs.Table.{table_of, noting}
 use Rattle.iq_sessions.proofs.Turns.{as_many, within_held, at_held}
-use Rattle.iq_sessions.proofs.Commits.{noted_kept, noted_within, note_table, note_view, same_at}
+use Rattle.iq_sessions.proofs.Commits.{noted_within, note_table, note_view, same_at}
 use Rattle.iq_sessions.proofs.session_table.SessionTable.note_names.Goals as goal
 
 pub held-requires : goal.held-requires
@@ -33,7 +32,7 @@ invariant_of-self-2 c =
     let total : c.in-Some.total ≡ c.self.inside.noted + (length (held_at c.args.s c.self.inside.locks.held) + 1) = search rules in
     let room : c.in-Some.total ≤ c.name_room.new.self.room = search rules in
     let y_is : c.note.new.self ≡ record (c.index.result.now) { noted = length (held_at c.args.s c.self.inside.locks.held) + 1 } =
-        rw (same_at c.self.inside.sessions.items c.args.s c.index.result.now c.index_mut.result.now kept c.index.ensures c.index_mut.ensures.value, ← c.held.ensures) (search rules) in
+    rw (same_at c.self.inside.sessions.items c.args.s c.index.result.now c.index_mut.result.now kept c.index.ensures c.index_mut.ensures.value, ← c.held.ensures) (search rules) in
     note_table c.self.inside.sessions.items c.self.inside.locks c.name_room.new.self c.self.inside.noted c.args.s (length (held_at c.args.s c.self.inside.locks.held) + 1) c.index.result.now c.note.new.self _ c.self.invariant kept c.index.ensures
     y_is c.name_room.ensures.held (omega (arith, c.noted-before.ensures)) (omega arith)
 
@@ -41,7 +40,7 @@ pub returns-clause-ok : goal.returns-clause-ok
 returns-clause-ok c =
     let kept : c.args.s < length c.self.inside.sessions.items = rw (as_many c.self.inside.sessions.items c.self.inside.locks.held) at (rw (← c.self.view_is) at c.requires) in
     let y_is : c.note.new.self ≡ record (c.index.result.now) { noted = length (held_at c.args.s c.self.inside.locks.held) + 1 } =
-        rw (same_at c.self.inside.sessions.items c.args.s c.index.result.now c.index_mut.result.now kept c.index.ensures c.index_mut.ensures.value, ← c.held.ensures) (search rules) in
+    rw (same_at c.self.inside.sessions.items c.args.s c.index.result.now c.index_mut.result.now kept c.index.ensures c.index_mut.ensures.value, ← c.held.ensures) (search rules) in
     rw (← c.self.view_is)
     (at_held c.self.inside.sessions.items c.self.inside.locks.held c.args.s (λ held. table_of (slice_set c.self.inside.sessions.items c.args.s c.note.new.self) c.name_room.new.self ≡ noting c.args.s (length held + 1) (table_of c.self.inside.sessions.items c.self.inside.locks))
     c.self.invariant.fit (rw (← c.self.view_is) at c.requires)

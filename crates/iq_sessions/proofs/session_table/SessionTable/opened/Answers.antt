@@ -1,4 +1,4 @@
-use Rattle.std.proofs.Common.{rules, ◌≡◌, [], length}
+use Rattle.std.proofs.Common.{◌≡◌, [], length}
 use Rattle.std.specs.Prelude.{replicate}
 use Rattle.iq_sessions.specs.Table.{fresh_kepts}
 use Rattle.iq_sessions.proofs.Fresh.{fresh_table, fresh_view}
