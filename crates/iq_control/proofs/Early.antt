@@ -1,8 +1,8 @@
 -- The tests of a line that the control knows.
-use Rattle.std.specs.Prelude.{◌≡◌, refl, ℕ, Bool, true, false, List, [], ◌∷◌, ◌++◌, Option, Some, None, map, is_none, nat_le}
-use Rattle.std.specs.List.{slice_get}
+use Rattle.std.specs.Prelude.{◌≡◌, refl, ℕ, Bool, true, false, List, [], ◌∷◌, ◌++◌, Option, Some, None, map, is_none, nat_le, ◌<◌, zero, suc, length, slice_index_or}
+use Rattle.std.specs.List.{AllByRecursion, slice_get}
 use Rattle.std.specs.Option.{option_or}
-use Rattle.std.proofs.Common.{ap, sym, ◌∙◌}
+use Rattle.std.proofs.Common.{ap, sym, ◌∙◌, arith, subst}
 use Rattle.std.proofs.lemmas.List.{length-map}
 use Rattle.iq_base.specs.Shorts.{Name}
 use Rattle.iq_base.specs.declared.refusals.Refusal.{Refusal}
@@ -11,9 +11,11 @@ use Rattle.iq_ast.specs.declared.statements.Statement.{Statement}
 use Rattle.iq_ast.specs.declared.statements.Statement.TheVariants as statements
 use Rattle.iq_conditions.specs.Servers.{same_name}
 use Rattle.iq_statements.specs.Checks.{Check, first_refusal, found_if}
-use Rattle.iq_replay.specs.State.{State, Session, Standing, idle, lost, running, Run, Save, Node}
-use Rattle.iq_replay.specs.Refusals.{lost_refusal, before_line, save_named, most_saves, transaction_refusal, halted_refusal, run_checks, line_checks}
+use Rattle.iq_replay.specs.State.{State, Session, Standing, idle, lost, running, Run, Save, Node, held_by}
+use Rattle.iq_replay.specs.Refusals.{reader_refusal, excluded_refusal, lost_refusal, before_line, save_named, most_saves, transaction_refusal, halted_refusal, run_checks, line_checks}
 use Rattle.iq_sessions.specs.Bare.{bare_session, bare_standing, bare_run, bare_save}
+use Rattle.iq_sessions.specs.Bare.{At}
+use Rattle.iq_sessions.specs.Kept.{KeptSession, IsKeptAs, standing_of, session_of}
 use Rattle.iq_control.specs.Asked.{early_checks, IsAdmitted}
 
 -- WITHOUT TABLES
@@ -108,3 +110,29 @@ pub quiet_release : (s : State) (place : ℕ) (name : Name) (standing : Standing
 quiet_release s place name idle = refl
 quiet_release s place name lost = refl
 quiet_release s place name (running run) = rw (halted_quiet s.halted) refl
+
+-- WHAT IS FOUND OF A SESSION AS IT IS KEPT
+
+or_end : (a : Option Refusal) → option_or a None ≡ a
+or_end None = refl
+or_end (Some r) = refl
+
+get_found : {X : Type 0} (xs : List X) (n : ℕ) (x : X) → n < length xs → x ≡ slice_index_or xs n x → slice_get xs n ≡ Some x
+get_found [] n x h is = absurd (omega (arith, h))
+get_found (z ∷ xs) zero x h is = ap Some (sym is)
+get_found (z ∷ xs) (suc n) x h is = get_found xs n x (omega (arith, h)) is
+
+pub early_found : (nodes : List Node) (sessions : List Session) (place : ℕ) (kept : KeptSession) (node : Node) (statement : Statement) (result : Option Refusal) → At place sessions (IsKeptAs kept)
+    → AllByRecursion (λ (session : Session). session.node < length nodes) sessions → node ≡ slice_index_or nodes kept.node node
+    → ((names : List Name) → result ≡ option_or (lost_refusal (Some node) (standing_of kept.transaction names)) (option_or (excluded_refusal node) (option_or (transaction_refusal (before_line (standing_of kept.transaction names)) statement) (reader_refusal (Some node) statement))))
+    → At place sessions (λ session. result ≡ first_refusal (early_checks nodes session statement))
+early_found nodes [] place kept node statement result at_kept all is found = absurd at_kept
+early_found nodes (s ∷ ss) zero kept node statement result at_kept all is found =
+    subst (λ (x : Session). result ≡ first_refusal (early_checks nodes x statement)) (sym at_kept.is) (for_names (held_by s.standing))
+  where
+    within : kept.node < length nodes
+    within = rw (← ap (λ (x : Session). x.node) at_kept.is) all.0
+
+    for_names : (names : List Name) → result ≡ first_refusal (early_checks nodes (session_of kept names) statement)
+    for_names names = rw (get_found nodes kept.node node within is, or_end (reader_refusal (Some node) statement)) (found names)
+early_found nodes (s ∷ ss) (suc n) kept node statement result at_kept all is found = early_found nodes ss n kept node statement result at_kept all.1 is found

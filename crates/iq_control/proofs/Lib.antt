@@ -8,3 +8,4 @@ pub mod Due
 pub mod Moves
 pub mod Locks
 pub mod Opened
+pub mod Named

@@ -3,6 +3,7 @@ ghost use Rattle.std.specs.Prelude.{◌≡◌, ◌<◌, ◌+◌, ⊤, true, fals
 ghost use Rattle.iq_base.specs.Locks.{table_locks};
 ghost use Rattle.iq_ast.specs.declared.statements.Statement.TheVariants as statements;
 ghost use Rattle.iq_history.specs.Placed.{IsPlacedRefusal};
+ghost use Rattle.iq_statements.specs.Checks.{first_refusal};
 ghost use Rattle.iq_replay.specs.Causes.{faults_after};
 ghost use Rattle.iq_replay.specs.Lines.{runs};
 ghost use Rattle.iq_replay.specs.Nodes.{snapshot_of};
@@ -10,11 +11,13 @@ ghost use Rattle.iq_replay.specs.State.{held_by, has_name};
 ghost use Rattle.iq_sessions.specs.Bare.{At, was_lost};
 ghost use Rattle.iq_control.specs.Opened.{IsControllable, IsOpened};
 ghost use Rattle.iq_sessions.specs.Table.{AsksOpen, AsksSave, AsksCommit, CommitsAt, noted_at};
-ghost use Rattle.iq_control.specs.Asked.{AtLine, IsSnapshot, AsksBegin, AsksLock, AsksTake, AreFree, AreNotFree, HasHoldRoom, AsksEnd, AsksRun};
+ghost use Rattle.iq_control.specs.Asked.{AtLine, early_checks, IsSnapshot, AsksBegin, AsksLock, AsksTake, AreFree, AreNotFree, HasHoldRoom, AsksEnd, AsksRun};
 ghost use Rattle.iq_control.specs.Changes.{begun, locked_more, took, refused_line, committed_at, ended, rolled_back, rolled_at_end, halted_at, saved, went_back, released};
 
 use crate::nodes::{ControlNode, move_node};
+use crate::refusals;
 use crate::opening::{fresh_nodes, history_for};
+use iq_ast::Statement;
 use iq_base::{Locks, Name, NoMemory, Refusal};
 use iq_history::{Entry, History};
 use iq_model::Script;
@@ -126,6 +129,23 @@ impl Control {
         ensures { At s self.now.table.sessions (λ session. result ≡ snapshot_of session.standing) }
     {
         self.table.snapshot(s)
+    }
+
+    /// The first refusal of a session's line that is found before its statement's own tests, if one is.
+    pub fn early_refusal(&self, s: u32, statement: &Statement) -> Option<Refusal>
+        requires { s < length self.now.table.sessions }
+        ensures { At s self.now.table.sessions (λ session. result ≡ first_refusal (early_checks self.now.nodes session statement.now)) }
+    {
+        let session = self.table.session(s);
+        let node = &self.nodes[session.node() as usize];
+        refusals::first(node, session.transaction(), statement)
+    }
+
+    /// The name of a session's node, where it is a reader.
+    pub fn reader(&self, s: u32) -> Option<&Name>
+        requires { s < length self.now.table.sessions }
+    {
+        self.nodes[self.table.node(s) as usize].reader()
     }
 
     /// The line's transaction, which holds no name, ends.

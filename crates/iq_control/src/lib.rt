@@ -10,6 +10,7 @@ mod control;
 mod laws;
 mod nodes;
 mod opening;
+mod refusals;
 
 pub use control::Control;
 pub use laws::{
