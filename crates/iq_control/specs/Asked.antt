@@ -1,5 +1,5 @@
 -- What is asked of the control and of a session's line before an entry.
-use Rattle.std.specs.Prelude.{◌≡◌, ◌≤◌, ⊤, ℕ, ◌+◌, length, Bool, true, false, List, [], ◌∷◌, Option, Some, None, IsSomeAnd}
+use Rattle.std.specs.Prelude.{if◌then◌else◌, ◌≡◌, ◌≤◌, ⊤, ℕ, ◌+◌, length, Bool, true, false, List, [], ◌∷◌, Option, Some, None, IsSomeAnd}
 use Rattle.std.specs.List.{slice_get}
 use Rattle.std.specs.Option.{option_or}
 use Rattle.iq_base.specs.Shorts.{Name}
@@ -10,7 +10,7 @@ use Rattle.iq_ast.specs.declared.statements.Statement.TheVariants as statements
 use Rattle.iq_statements.specs.Checks.{Check, first_refusal}
 use Rattle.iq_statements.specs.Statements.{IsOnTables, IsWrite, HasMeaning, Begins, creates}
 use Rattle.iq_replay.specs.State.{State, Session, idle, Node, fresh, has_some, held_by}
-use Rattle.iq_replay.specs.Nodes.{node_position}
+use Rattle.iq_replay.specs.Nodes.{node_position, is_reader}
 use Rattle.iq_replay.specs.Refusals.{lost_refusal, at_node, excluded_refusal, transaction_refusal, before_line, reader_refusal, wanted, line_checks, checks_below, checks_but}
 use Rattle.iq_replay.specs.Asked.{FirstIs, StatementIs, IsRunning, IsOpen, IsUnlocked, HoldsAll, IsGranted}
 use Rattle.iq_replay.specs.Lines.{CanEnd}
@@ -65,6 +65,10 @@ pub record AsksBegin (c : ControlState) (own : Bool) (session : Session) (statem
 -- the snapshot that a session's transaction gets
 abbrev pub IsSnapshot : ControlState → Session → ℕ → Type 0
 IsSnapshot c session commit = IsSomeAnd (slice_get c.nodes session.node) (λ node. commit ≡ node_position c.latest node)
+
+-- the name of a session's node, where it is a reader
+abbrev pub IsReaderName : ControlState → Session → Option Name → Type 0
+IsReaderName c session name = IsSomeAnd (slice_get c.nodes session.node) (λ node. name ≡ (if is_reader node.kind then Some node.name else None))
 
 -- these are the names that the running transaction of a write's line locks and doesn't hold, one at least
 pub record AsksLock (names : List Name) (session : Session) (statement : Statement) : Type 0 where

@@ -10,12 +10,16 @@ use Rattle.iq_replay.specs.State.{Session}
 use Rattle.iq_replay.specs.Causes.{faults_after}
 use Rattle.iq_replay.specs.Changes.{ends_run, locks_more, nodes_at}
 use Rattle.iq_sessions.specs.Changes.{begins_at, takes, refuses, ends_both, saves, goes_back, releases}
-use Rattle.iq_sessions.specs.Table.{TableState, with_at}
+use Rattle.iq_sessions.specs.Table.{TableState, with_at, noting}
 use Rattle.iq_control.specs.Control.{ControlState}
 
 -- one entry more, and one session changed
 abbrev pub entered : Entry → ℕ → (Session → Session) → ControlState → ControlState
 entered e place f c = record c { entries = c.entries ++ e ∷ []; table = with_at place f c.table }
+
+-- there is room for so many names of a session's commit
+abbrev pub noted : ℕ → ℕ → ControlState → ControlState
+noted place n c = record c { table = noting place n c.table }
 
 -- a transaction began at a commit, the line's own or the session's
 abbrev pub begun : ℕ → ℕ → Bool → ℕ → ControlState → ControlState

@@ -1,5 +1,6 @@
 //! The control of a run.
 ghost use Rattle.std.specs.Prelude.{◌≡◌, ◌<◌, ◌+◌, ⊤, true, false, length, unwrap_or, None, IfOk, OnOk, OnErr, IfErr};
+ghost use Rattle.std.specs.Option.{option_copied};
 ghost use Rattle.iq_base.specs.Locks.{table_locks};
 ghost use Rattle.iq_ast.specs.declared.statements.Statement.TheVariants as statements;
 ghost use Rattle.iq_history.specs.Placed.{IsPlacedRefusal};
@@ -11,12 +12,12 @@ ghost use Rattle.iq_replay.specs.State.{held_by, has_name};
 ghost use Rattle.iq_sessions.specs.Bare.{At, was_lost};
 ghost use Rattle.iq_control.specs.Opened.{IsControllable, IsOpened};
 ghost use Rattle.iq_sessions.specs.Table.{AsksOpen, AsksSave, AsksCommit, CommitsAt, noted_at};
-ghost use Rattle.iq_control.specs.Asked.{AtLine, early_checks, IsSnapshot, AsksBegin, AsksLock, AsksTake, AreFree, AreNotFree, HasHoldRoom, AsksEnd, AsksRun};
-ghost use Rattle.iq_control.specs.Changes.{begun, locked_more, took, refused_line, committed_at, ended, rolled_back, rolled_at_end, halted_at, saved, went_back, released};
+ghost use Rattle.iq_control.specs.Asked.{AtLine, IsReaderName, early_checks, IsSnapshot, AsksBegin, AsksLock, AsksTake, AreFree, AreNotFree, HasHoldRoom, AsksEnd, AsksRun};
+ghost use Rattle.iq_control.specs.Changes.{noted, begun, locked_more, took, refused_line, committed_at, ended, rolled_back, rolled_at_end, halted_at, saved, went_back, released};
 
 use crate::nodes::{ControlNode, move_node};
-use crate::refusals;
 use crate::opening::{fresh_nodes, history_for};
+use crate::refusals;
 use iq_ast::Statement;
 use iq_base::{Locks, Name, NoMemory, Refusal};
 use iq_history::{Entry, History};
@@ -144,8 +145,25 @@ impl Control {
     /// The name of a session's node, where it is a reader.
     pub fn reader(&self, s: u32) -> Option<&Name>
         requires { s < length self.now.table.sessions }
+        ensures { At s self.now.table.sessions (λ session. IsReaderName self.now session (option_copied result)) }
     {
         self.nodes[self.table.node(s) as usize].reader()
+    }
+
+    /// The commit that met a device fault, if one did.
+    pub fn halted(&self) -> Option<u64>
+        ensures { result ≡ self.now.halted }
+    {
+        self.halted
+    }
+
+    /// Makes room for the names that a session's commit may write: those that it holds, and one that it creates.
+    pub fn note_names(&mut self, s: u32) -> Result<(), NoMemory>
+        requires { s < length self.old.table.sessions }
+        ensures ok { OnOk result (At s self.old.table.sessions (λ session. self.new ≡ noted s (length (held_by session.standing) + 1) self.old)) }
+        ensures err { OnErr result (self.new ≡ self.old) }
+    {
+        self.table.note_names(s)
     }
 
     /// The line's transaction, which holds no name, ends.
