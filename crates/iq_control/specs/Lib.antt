@@ -1,0 +1,5 @@
+pub mod Control
+pub mod Changes
+pub mod Asked
+pub mod Due
+pub mod Opened

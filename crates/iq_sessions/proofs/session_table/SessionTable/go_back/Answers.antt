@@ -1,0 +1,44 @@
+use Rattle.std.proofs.Common.{rules, ◌<◌, length}
+use Rattle.iq_locks.specs.Locked.{held_at}
+use Rattle.iq_sessions.specs.Table.{AsksOpen}
+use Rattle.iq_sessions.specs.Changes.{goes_back}
+use Rattle.iq_sessions.proofs.Turns.{within_kept, at_within, at_kept, fits_at, within_held, turned_alone}
+use Rattle.iq_sessions.proofs.session_table.SessionTable.go_back.Goals as goal
+
+pub index_mut-requires : goal.index_mut-requires
+index_mut-requires c =
+    let asked = rw (← c.self.view_is) at c.requires in
+    let kept : c.args.s < length c.self.inside.sessions.items = within_kept c.self.inside.sessions.items c.self.inside.locks.held c.args.s AsksOpen asked in
+    search rules
+
+pub go_back-requires-clause-some : goal.go_back-requires-clause-some
+go_back-requires-clause-some c =
+    let asked = rw (← c.self.view_is) at c.requires in
+    let within = at_within _ _ AsksOpen asked in
+    (at_kept _ _ c.args.s c.index_mut.result.now AsksOpen c.self.invariant.fit within c.index_mut.ensures.value asked).line
+
+pub go_back-requires-clause-open_still : goal.go_back-requires-clause-open_still
+go_back-requires-clause-open_still c =
+    let asked = rw (← c.self.view_is) at c.requires in
+    let within = at_within _ _ AsksOpen asked in
+    (at_kept _ _ c.args.s c.index_mut.result.now AsksOpen c.self.invariant.fit within c.index_mut.ensures.value asked).open_still
+
+pub held-held-requires : goal.held-held-requires
+held-held-requires c =
+    let asked = rw (← c.self.view_is) at c.requires in
+    let within = at_within _ _ AsksOpen asked in
+    within_held _ _ c.args.s c.self.invariant.fit within
+
+pub invariant_of-self : goal.invariant_of-self
+invariant_of-self c =
+    let asked = rw (← c.self.view_is) at c.requires in
+    let within = at_within _ _ AsksOpen asked in
+    let fit = fits_at _ _ c.args.s c.index_mut.result.now c.self.invariant.fit within c.index_mut.ensures.value in
+    (turned_alone c.self.inside.sessions.items c.self.inside.locks c.self.inside.noted c.args.s (goes_back c.args.name.now) c.index_mut.result.now c.go_back.new.self c.self.invariant within c.index_mut.ensures.value (c.go_back.ensures (held_at c.args.s c.self.inside.locks.held) fit (search rules))).table
+
+pub returns : goal.returns
+returns c =
+    let asked = rw (← c.self.view_is) at c.requires in
+    let within = at_within _ _ AsksOpen asked in
+    let fit = fits_at _ _ c.args.s c.index_mut.result.now c.self.invariant.fit within c.index_mut.ensures.value in
+    rw (← c.self.view_is) (turned_alone c.self.inside.sessions.items c.self.inside.locks c.self.inside.noted c.args.s (goes_back c.args.name.now) c.index_mut.result.now c.go_back.new.self c.self.invariant within c.index_mut.ensures.value (c.go_back.ensures (held_at c.args.s c.self.inside.locks.held) fit (search rules))).view

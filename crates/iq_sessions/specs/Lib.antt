@@ -1,0 +1,5 @@
+pub mod Bare
+pub mod Changes
+pub mod Saves
+pub mod Kept
+pub mod Table
