@@ -1,5 +1,6 @@
 //! Reserved words.
-ghost use Rattle.std.specs.Prelude.{◌≡◌, map};
+ghost use Rattle.std.specs.Prelude.{◌≡◌, ◌↔◌, map, None, false};
+ghost use Rattle.iq_ast.specs.Words.{is_reserved};
 ghost use Rattle.iq_tokens.specs.Tokens as spec;
 
 use crate::tokens::Mark;
@@ -93,7 +94,8 @@ fn lookup(mut table: &[(&[u8], Mark)], word: &[u8]) -> Option<Mark>
 /// The mark of a reserved word in lower case.
 #[tactic(auto, unfolding(crate::specs::Tokens::reserved))]
 pub fn reserved(word: &[u8]) -> Option<Mark>
-    ensures { result ≡ spec.reserved word.now }
+    ensures value { result ≡ spec.reserved word.now }
+    ensures none { (result ≡ None) ↔ (is_reserved word.now ≡ false) }
 {
     lookup(&WORDS, word)
 }

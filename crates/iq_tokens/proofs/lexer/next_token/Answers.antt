@@ -16,7 +16,7 @@ returns-in-spaces c =
     let turn = turn_token c.spaces.at c.args.text.now c.spaces-test.true (sym c.is_space.ensures ∙ c.if-is_space.false) moves in (
       sym c.spaces.invariant.0 ∙ subst (λ (f : Front). tokens_from c.args.text.now c.spaces.at ≡ token (c.spaces.at + 1) f.lexeme ∷ tokens_from c.args.text.now (c.spaces.at + f.bytes)) (sym first) turn,
       omega (arith, c.first_token-lexeme.ensures.moves, c.spaces.invariant.1),
-      omega (arith, c.first_token-lexeme.ensures.within, c.split_at.ensures.back, c.spaces-test.true, length-drop c.spaces.at c.args.text.now),
+      omega (arith, c.first_token-lexeme.ensures.within, c.spaces-test.true, length-drop c.spaces.at c.args.text.now),
     )
 
 pub returns : goal.returns
