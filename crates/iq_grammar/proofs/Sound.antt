@@ -238,7 +238,7 @@ beginning_is k (x ∷ xs) l d (inr among) h =
     another_case k x xs l (same k x.kind) refl (not_true (begins xs x.kind) both.0) (begins_among k xs l among h) (beginning_is k xs l both.1 among h)
 
 -- no line of a part begins with a kind that may stand behind it, if it may lack
-apart_none : (k : Kind) (ls : List Line) (ks : List Kind) → apart ls ks ≡ true → has ks k ≡ true → beginning k ls ≡ None
+pub apart_none : (k : Kind) (ls : List Line) (ks : List Kind) → apart ls ks ≡ true → has ks k ≡ true → beginning k ls ≡ None
 apart_none k [] ks a h = refl
 apart_none k (x ∷ xs) ks a h =
     let both = and_true (not (has ks x.kind)) (apart xs ks) a in
@@ -250,7 +250,7 @@ apart_none k (x ∷ xs) ks a h =
         let no : has ks k ≡ false = subst (λ (j : Kind). has ks j ≡ false) (sym (same_is k x.kind here)) none in absurd cc
     apart_case k x xs ks false here none some rest = rest
 
-lack_apart : (p : Part) → may_lack p ≡ true → apart (lines p) (follow p) ≡ true
+pub lack_apart : (p : Part) → may_lack p ≡ true → apart (lines p) (follow p) ≡ true
 lack_apart p lack =
     let three = and_true (all_closed (follow p) (lines p)) _ (sound p) in
     let two = and_true (distinct (lines p)) (not (may_lack p) || apart (lines p) (follow p)) three.1 in
