@@ -1,23 +1,23 @@
 -- Reading WHERE, GROUP BY and ORDER BY.
-use Rattle.std.proofs.Common.{◌≡◌, ◌≤◌, ℕ, ◌+◌, Bool, true, false, List, [], ◌∷◌, ◌++◌, Option, Some, None, Ok, refl, sym, ap, subst, ◌∙◌, append_assoc, inl, inr, arith}
+use Rattle.std.proofs.Common.{◌≡◌, ◌≤◌, ℕ, ◌+◌, true, List, [], ◌∷◌, ◌++◌, Option, Some, None, refl, sym, ap, subst, ◌∙◌, inl, inr, arith}
 use Rattle.iq_ast.specs.declared.conditions.Cond.{Cond}
 use Rattle.iq_ast.specs.declared.statements.Order.{Order}
 use Rattle.iq_tokens.specs.declared.tokens.Mark.{Mark}
-use Rattle.iq_tokens.specs.declared.tokens.Mark.TheVariants.{Where, Group, By, Order as OrderMark, Semicolon}
+use Rattle.iq_tokens.specs.declared.tokens.Mark.TheVariants.{Where, Group, Order as OrderMark, Semicolon}
 use Rattle.iq_tokens.specs.declared.tokens.Lexeme.{Lexeme}
 use Rattle.iq_tokens.specs.declared.tokens.Kind.TheVariants.{Mark as the_mark}
-use Rattle.iq_tokens.specs.Kinds.{kind_of, same, same_mark}
+use Rattle.iq_tokens.specs.Kinds.{same, same_mark}
 use Rattle.iq_grammar.specs.declared.grammar.Part.{Part}
 use Rattle.iq_grammar.specs.declared.grammar.Part.TheVariants as part
 use Rattle.iq_grammar.specs.declared.grammar.Symbol.{Symbol}
 use Rattle.iq_grammar.specs.declared.grammar.Symbol.TheVariants.{Go}
 use Rattle.iq_grammar.specs.declared.draft.Draft.{Draft}
 use Rattle.iq_grammar.specs.declared.draft.Level.{Level}
-use Rattle.iq_grammar.specs.Grammar.{lines, may_lack, after, can_end}
+use Rattle.iq_grammar.specs.Grammar.{lines, may_lack, after}
 use Rattle.iq_grammar.specs.Draft.{put, no_level, whole}
 use Rattle.iq_grammar.specs.Reading.{run, next}
 use Rattle.iq_grammar.specs.Statements.{where_of}
-use Rattle.iq_grammar.proofs.Sound.{has, follow, marks_behind}
+use Rattle.iq_grammar.proofs.Sound.{has, follow}
 use Rattle.iq_spelling.specs.Lists.{word}
 use Rattle.iq_spelling.specs.Texts.{IsWhere, IsGroup, IsOrder, IsEnd}
 use Rattle.iq_spelling.proofs.Parts.{reads, Behind, skip}
@@ -79,7 +79,7 @@ where_reads d (Some c) ws ss ts (cs, says, is) empty_level behind more_and more_
       scratch = here.scratch;
       level = halfway d.level here.ors here.ands;
       goes = ap (λ (l : List Lexeme). reads d (Go part.Where ∷ ss) (l ++ ts)) is ∙ where_begins d ss (cs ++ ts) ∙ here.goes
-      ∙ skip part.MoreAnd _ (Go part.MoreOr ∷ ss) ts refl more_and ∙ skip part.MoreOr _ ss ts refl more_or;
+          ∙ skip part.MoreAnd _ (Go part.MoreOr ∷ ss) ts refl more_and ∙ skip part.MoreOr _ ss ts refl more_or;
       is = where_some here.ands (halfway d.level here.ors here.ands) here.some ∙ ap Some here.is;
     }
 

@@ -1,5 +1,5 @@
 -- Reading columns, tuples, changes, items, groups and orders.
-use Rattle.std.proofs.Common.{◌≡◌, ◌<◌, ◌≤◌, ℕ, Bool, true, false, ◌&&◌, not, List, [], ◌∷◌, ◌++◌, length, Option, Some, None, Ok, refl, sym, ap, subst, ◌∙◌, append_assoc, inl, inr, pos, arith}
+use Rattle.std.proofs.Common.{◌≡◌, ◌<◌, ℕ, Bool, true, false, List, [], ◌∷◌, ◌++◌, length, refl, ap, ◌∙◌, append_assoc, inl, inr, arith}
 use Rattle.std.specs.Prelude.{⊤, nat_lt, nat_le}
 use Rattle.std.proofs.lemmas.Bool.Decides.{nat_tests}
 use Rattle.iq_base.specs.declared.values.Value.{Value}
@@ -11,11 +11,9 @@ use Rattle.iq_ast.specs.declared.statements.Item.{Item}
 use Rattle.iq_ast.specs.declared.statements.Item.TheVariants as item
 use Rattle.iq_ast.specs.declared.statements.Order.{Order}
 use Rattle.iq_ast.specs.declared.statements.Change.{Change}
-use Rattle.iq_tokens.specs.declared.tokens.Mark.{Mark}
 use Rattle.iq_tokens.specs.declared.tokens.Mark.TheVariants.{Comma, Open, Close, Equal, Group, By, Order as OrderMark}
 use Rattle.iq_tokens.specs.declared.tokens.Lexeme.{Lexeme}
-use Rattle.iq_tokens.specs.declared.tokens.Lexeme.TheVariants as lexeme
-use Rattle.iq_tokens.specs.Kinds.{kind_of, same, same_mark}
+use Rattle.iq_tokens.specs.Kinds.{same, same_mark}
 use Rattle.iq_grammar.specs.declared.grammar.Aggregate.{Aggregate}
 use Rattle.iq_grammar.specs.declared.grammar.Aggregate.TheVariants as aggregate
 use Rattle.iq_grammar.specs.declared.grammar.Part.TheVariants as part
@@ -29,7 +27,7 @@ use Rattle.iq_grammar.specs.declared.grammar.Role.TheVariants as role
 use Rattle.iq_grammar.specs.Draft.{put, change_last, has_column, has_change}
 use Rattle.iq_grammar.specs.Reading.{run, next}
 use Rattle.iq_grammar.proofs.Lists.{change_last_end}
-use Rattle.iq_spelling.specs.Lists.{word, name, literal, IsLiteral, IsName, AreJoined, AreListed, Obey}
+use Rattle.iq_spelling.specs.Lists.{word, name, literal, IsLiteral, IsName, AreListed, Obey}
 use Rattle.iq_spelling.specs.Texts.{kind_words, IsKind, IsNullness, IsColumn, IsNewColumn, IsTuple, IsChange, IsNewChange, item_words, IsItem, IsWay, IsOrdered}
 use Rattle.iq_spelling.proofs.Parts.{reads, Behind, skip, more_reads, listed_reads, Free, all_free, Any, any, behind_member}
 

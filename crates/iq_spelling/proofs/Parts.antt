@@ -1,17 +1,15 @@
 -- Reading tokens whose places don't matter, part by part.
-use Rattle.std.proofs.Common.{◌≡◌, ◌<◌, ◌≤◌, ℕ, ◌+◌, Bool, true, false, ◌&&◌, not, List, [], ◌∷◌, ◌++◌, length, Option, Some, None, Result, Ok, refl, sym, ap, subst, ◌∙◌, append_assoc, inl, inr, pos, arith}
-use Rattle.std.specs.Prelude.{⊤, nat_lt, nat_le}
+use Rattle.std.proofs.Common.{◌≡◌, ℕ, true, List, [], ◌∷◌, ◌++◌, None, Result, refl, sym, ap, subst, ◌∙◌, append_assoc}
+use Rattle.std.specs.Prelude.{⊤}
 use Rattle.std.proofs.lemmas.List.{append-nil}
-use Rattle.std.proofs.lemmas.Bool.Decides.{nat_tests}
 use Rattle.iq_tokens.specs.declared.tokens.Mark.{Mark}
 use Rattle.iq_tokens.specs.declared.tokens.Lexeme.{Lexeme}
-use Rattle.iq_tokens.specs.Kinds.{kind_of, same, same_mark}
+use Rattle.iq_tokens.specs.Kinds.{kind_of}
 use Rattle.iq_grammar.specs.declared.grammar.Part.{Part}
 use Rattle.iq_grammar.specs.declared.grammar.Symbol.{Symbol}
 use Rattle.iq_grammar.specs.declared.grammar.Symbol.TheVariants.{Go}
 use Rattle.iq_grammar.specs.declared.draft.Draft.{Draft}
-use Rattle.iq_grammar.specs.Grammar.{Line, lines, may_lack, beginning, after, can_end}
-use Rattle.iq_grammar.specs.Draft.{put}
+use Rattle.iq_grammar.specs.Grammar.{lines, may_lack, beginning, after, can_end}
 use Rattle.iq_grammar.specs.Reading.{run, next}
 use Rattle.iq_grammar.proofs.Laws.{placed}
 use Rattle.iq_grammar.proofs.Sound.{has, follow, apart_none, lack_apart}

@@ -1,6 +1,5 @@
 -- Reading conditions.
-use Rattle.std.proofs.Common.{◌≡◌, ◌<◌, ◌≤◌, ℕ, zero, suc, ◌+◌, Bool, true, false, List, [], ◌∷◌, ◌++◌, Option, Some, None, Ok, refl, sym, ap, subst, ◌∙◌, append_assoc, inl, inr, ⊎_elim, arith}
-use Rattle.std.specs.Prelude.{⊤, nat_le}
+use Rattle.std.proofs.Common.{◌≡◌, ◌≤◌, ℕ, zero, suc, ◌+◌, Bool, true, false, List, [], ◌∷◌, ◌++◌, refl, sym, ap, subst, ◌∙◌, append_assoc, inl, inr, arith}
 use Rattle.std.proofs.lemmas.Bool.Decides.{nat_tests}
 use Rattle.std.proofs.lemmas.List.{append-nil}
 use Rattle.iq_base.specs.declared.values.Value.{Value}
@@ -13,7 +12,7 @@ use Rattle.iq_ast.specs.declared.conditions.Cond.{Cond}
 use Rattle.iq_ast.specs.declared.conditions.Cond.TheVariants as cond
 use Rattle.iq_tokens.specs.declared.tokens.Mark.TheVariants.{And, Or, Not, Open, Close, Null, Between, In, Is}
 use Rattle.iq_tokens.specs.declared.tokens.Lexeme.{Lexeme}
-use Rattle.iq_tokens.specs.Kinds.{kind_of, same, same_mark}
+use Rattle.iq_tokens.specs.Kinds.{same, same_mark}
 use Rattle.iq_grammar.specs.declared.grammar.Part.TheVariants as part
 use Rattle.iq_grammar.specs.declared.grammar.Role.TheVariants as role
 use Rattle.iq_grammar.specs.declared.grammar.Symbol.{Symbol}
@@ -23,8 +22,8 @@ use Rattle.iq_grammar.specs.declared.draft.Level.{Level}
 use Rattle.iq_grammar.specs.Grammar.{lines, may_lack, after, acts}
 use Rattle.iq_grammar.specs.Draft.{put, with_cond, not_times, and_of, or_of, whole, turned, no_level, is_deep}
 use Rattle.iq_grammar.specs.Reading.{run, next}
-use Rattle.iq_spelling.specs.Lists.{word, name, literal, IsLiteral, maybe_not, AreMore, AreJoined, AreListed}
-use Rattle.iq_spelling.specs.Conditions.{op_mark, IsTest, IsConjunction, IsDisjunction, IsTested, IsNegated, IsBracketed, IsNegation, IsCondition}
+use Rattle.iq_spelling.specs.Lists.{word, name, literal, maybe_not, AreMore}
+use Rattle.iq_spelling.specs.Conditions.{op_mark, IsTest, IsConjunction, IsDisjunction, IsTested, IsNegated, IsBracketed, IsNegation}
 use Rattle.iq_spelling.proofs.Parts.{reads}
 use Rattle.iq_spelling.proofs.Items.{members_read}
 
@@ -125,21 +124,23 @@ test_reads d (test.Columns c o r) ls ss ts is =
     (record { column = c; op = o; negated = false; low = d.low; row = [] }, ap (λ (l : List Lexeme). reads d (Go part.Condition ∷ ss) (l ++ ts)) is ∙ columns_read d c o r ss ts)
 test_reads d (test.Between c b low high) ls ss ts is =
     let text : ls ++ ts ≡ name c ∷ (maybe_not b ++ word Between ∷ literal low ∷ word And ∷ literal high ∷ ts) =
-    ap (λ (l : List Lexeme). l ++ ts) is ∙ ap (λ (l : List Lexeme). name c ∷ l) (append_assoc (maybe_not b) (word Between ∷ literal low ∷ word And ∷ literal high ∷ []) ts) in
-    (record { column = c; op = d.op; negated = b; low = low; row = [] },
-    ap (λ (l : List Lexeme). reads d (Go part.Condition ∷ ss) l) text
-    ∙ between_begins d c b ss (literal low ∷ word And ∷ literal high ∷ ts)
-    ∙ low_reads (tested d c b) low (Go part.High ∷ ss) (literal high ∷ ts)
-    ∙ high_reads (record (tested d c b) { low = low }) high ss ts)
+    ap (λ (l : List Lexeme). l ++ ts) is ∙ ap (λ (l : List Lexeme). name c ∷ l) (append_assoc (maybe_not b) (word Between ∷ literal low ∷ word And ∷ literal high ∷ []) ts) in (
+      record { column = c; op = d.op; negated = b; low = low; row = [] },
+      ap (λ (l : List Lexeme). reads d (Go part.Condition ∷ ss) l) text
+          ∙ between_begins d c b ss (literal low ∷ word And ∷ literal high ∷ ts)
+          ∙ low_reads (tested d c b) low (Go part.High ∷ ss) (literal high ∷ ts)
+          ∙ high_reads (record (tested d c b) { low = low }) high ss ts,
+    )
 test_reads d (test.OneOf c b vs) ls ss ts (vl, are, is) =
     let text : ls ++ ts ≡ name c ∷ (maybe_not b ++ word In ∷ word Open ∷ (vl ++ (word Close ∷ ts))) =
     ap (λ (l : List Lexeme). l ++ ts) is
-    ∙ ap (λ (l : List Lexeme). name c ∷ l) (append_assoc (maybe_not b) (word In ∷ word Open ∷ (vl ++ word Close ∷ [])) ts ∙ ap (λ (l : List Lexeme). maybe_not b ++ word In ∷ word Open ∷ l) (append_assoc vl (word Close ∷ []) ts)) in
-    (record { column = c; op = d.op; negated = b; low = d.low; row = [] },
-    ap (λ (l : List Lexeme). reads d (Go part.Condition ∷ ss) l) text
-    ∙ in_begins d c b ss (vl ++ (word Close ∷ ts))
-    ∙ members_read (tested d c b) vs vl (acts Close role.OneOf ∷ ss) (word Close ∷ ts) are
-    ∙ in_ends (tested d c b) vs ss ts)
+    ∙ ap (λ (l : List Lexeme). name c ∷ l) (append_assoc (maybe_not b) (word In ∷ word Open ∷ (vl ++ word Close ∷ [])) ts ∙ ap (λ (l : List Lexeme). maybe_not b ++ word In ∷ word Open ∷ l) (append_assoc vl (word Close ∷ []) ts)) in (
+      record { column = c; op = d.op; negated = b; low = d.low; row = [] },
+      ap (λ (l : List Lexeme). reads d (Go part.Condition ∷ ss) l) text
+          ∙ in_begins d c b ss (vl ++ (word Close ∷ ts))
+          ∙ members_read (tested d c b) vs vl (acts Close role.OneOf ∷ ss) (word Close ∷ ts) are
+          ∙ in_ends (tested d c b) vs ss ts,
+    )
 test_reads d (test.Null c b) ls ss ts is =
     let text : ls ++ ts ≡ name c ∷ word Is ∷ (maybe_not b ++ word Null ∷ ts) =
     ap (λ (l : List Lexeme). l ++ ts) is ∙ ap (λ (l : List Lexeme). name c ∷ word Is ∷ l) (append_assoc (maybe_not b) (word Null ∷ []) ts) in
@@ -189,9 +190,10 @@ and_more l cs = record l { ands = l.ands ++ cs; nots = 0 }
 
 ands_read : (n : ℕ) → Reading n → (d : Draft) (cs : List Cond) (ls : List Lexeme) (ss : List Symbol) (ts : List Lexeme) → AreMore And (IsNegation n) cs ls → d.level.nots ≡ 0 → d.level.base + n ≤ 64
     → (s : Scratch) × (reads d (Go part.MoreAnd ∷ ss) (ls ++ ts) ≡ reads (with_level d (and_more d.level cs) s) (Go part.MoreAnd ∷ ss) ts)
-ands_read n read d [] ls ss ts none zero_nots fits =
-    (record { column = d.column; op = d.op; negated = d.negated; low = d.low; row = d.row },
-    ap (λ (l : List Lexeme). reads d (Go part.MoreAnd ∷ ss) (l ++ ts)) none ∙ ap (λ (l : Level). reads (record d { level = l }) (Go part.MoreAnd ∷ ss) ts) same_level)
+ands_read n read d [] ls ss ts none zero_nots fits = (
+  record { column = d.column; op = d.op; negated = d.negated; low = d.low; row = d.row },
+  ap (λ (l : List Lexeme). reads d (Go part.MoreAnd ∷ ss) (l ++ ts)) none ∙ ap (λ (l : Level). reads (record d { level = l }) (Go part.MoreAnd ∷ ss) ts) same_level,
+)
   where
     same_level : d.level ≡ and_more d.level []
     same_level = rw (append-nil d.level.ands, ← zero_nots) refl
@@ -199,11 +201,12 @@ ands_read n read d (c ∷ cs) ls ss ts (a, b, one, more, is) zero_nots fits =
     let here = read d c a (Go part.MoreAnd ∷ ss) (b ++ ts) one (rw zero_nots (omega (arith, fits))) in
     let rest = ands_read n read (with_level d (with_cond d.level c) here.0) cs b ss ts more refl fits in
     let text : ls ++ ts ≡ word And ∷ (a ++ (b ++ ts)) = ap (λ (l : List Lexeme). l ++ ts) is ∙ ap (λ (l : List Lexeme). word And ∷ l) (append_assoc a b ts) in
-    let one_member : not_times d.level.nots c ≡ c = ap (λ k. not_times k c) zero_nots in
-    (rest.0,
-    ap (λ (l : List Lexeme). reads d (Go part.MoreAnd ∷ ss) l) text ∙ and_begins d ss (a ++ (b ++ ts)) ∙ here.1 ∙ rest.1
-    ∙ ap (λ (x : List Cond). reads (with_level d (record d.level { ands = x; nots = 0 }) rest.0) (Go part.MoreAnd ∷ ss) ts)
-    (ap (λ (x : Cond). (d.level.ands ++ x ∷ []) ++ cs) one_member ∙ append_assoc d.level.ands (c ∷ []) cs))
+    let one_member : not_times d.level.nots c ≡ c = ap (λ k. not_times k c) zero_nots in (
+      rest.0,
+      ap (λ (l : List Lexeme). reads d (Go part.MoreAnd ∷ ss) l) text ∙ and_begins d ss (a ++ (b ++ ts)) ∙ here.1 ∙ rest.1
+          ∙ ap (λ (x : List Cond). reads (with_level d (record d.level { ands = x; nots = 0 }) rest.0) (Go part.MoreAnd ∷ ss) ts)
+          (ap (λ (x : Cond). (d.level.ands ++ x ∷ []) ++ cs) one_member ∙ append_assoc d.level.ands (c ∷ []) cs),
+    )
 
 -- a conjunction from its first word on, in a level without members of AND
 conjunction_reads : (n : ℕ) → Reading n → (d : Draft) (c : Cond) (ls : List Lexeme) (ss : List Symbol) (ts : List Lexeme) → IsConjunction (IsNegation n) c ls
@@ -216,11 +219,14 @@ conjunction_reads n read d c ls ss ts (x ∷ xs, (a, b, one, more, is), is_and) 
     let rest = ands_read n read (with_level d (with_cond d.level x) here.0) xs b ss ts more refl fits in
     let text : ls ++ ts ≡ a ++ (b ++ ts) = ap (λ (l : List Lexeme). l ++ ts) is ∙ append_assoc a b ts in
     let members : (d.level.ands ++ not_times d.level.nots x ∷ []) ++ xs ≡ x ∷ xs =
-    ap (λ k. (d.level.ands ++ not_times k x ∷ []) ++ xs) no_nots ∙ ap (λ (l : List Cond). (l ++ x ∷ []) ++ xs) no_ands in
-    (rest.0, x ∷ xs,
-    ap (λ (l : List Lexeme). reads d (Go part.Condition ∷ Go part.MoreAnd ∷ ss) l) text ∙ here.1 ∙ rest.1
-    ∙ ap (λ (l : List Cond). reads (with_level d (record d.level { ands = l; nots = 0 }) rest.0) (Go part.MoreAnd ∷ ss) ts) members,
-    is_and, λ e. cc)
+    ap (λ k. (d.level.ands ++ not_times k x ∷ []) ++ xs) no_nots ∙ ap (λ (l : List Cond). (l ++ x ∷ []) ++ xs) no_ands in (
+      rest.0,
+      x ∷ xs,
+      ap (λ (l : List Lexeme). reads d (Go part.Condition ∷ Go part.MoreAnd ∷ ss) l) text ∙ here.1 ∙ rest.1
+          ∙ ap (λ (l : List Cond). reads (with_level d (record d.level { ands = l; nots = 0 }) rest.0) (Go part.MoreAnd ∷ ss) ts) members,
+      is_and,
+      λ e. cc,
+    )
 
 -- a level with members of OR done, and those of the AND under way
 abbrev pub halfway : Level → List Cond → List Cond → Level
@@ -231,10 +237,14 @@ ors_read : (n : ℕ) → Reading n → (d : Draft) (done : List Cond) (last : Co
     → d.level.nots ≡ 0 → d.level.base + n ≤ 64 → d.level.ors ≡ done → last ≡ and_of d.level.ands → (d.level.ands ≡ [] → ⊥)
     → (s : Scratch) × (ors : List Cond) × (ands : List Cond) × (reads d (Go part.MoreAnd ∷ Go part.MoreOr ∷ ss) (ls ++ ts) ≡ reads (with_level d (halfway d.level ors ands) s) (Go part.MoreAnd ∷ Go part.MoreOr ∷ ss) ts)
     × (ors ++ and_of ands ∷ [] ≡ done ++ last ∷ cs) × (ands ≡ [] → ⊥)
-ors_read n read d done last [] ls ss ts none no_nots fits is_done is_last some =
-    (record { column = d.column; op = d.op; negated = d.negated; low = d.low; row = d.row }, d.level.ors, d.level.ands,
-    ap (λ (l : List Lexeme). reads d (Go part.MoreAnd ∷ Go part.MoreOr ∷ ss) (l ++ ts)) none ∙ ap (λ (l : Level). reads (record d { level = l }) (Go part.MoreAnd ∷ Go part.MoreOr ∷ ss) ts) same_level,
-    ap (λ (x : List Cond). x ++ and_of d.level.ands ∷ []) is_done ∙ ap (λ (x : Cond). done ++ x ∷ []) (sym is_last), some)
+ors_read n read d done last [] ls ss ts none no_nots fits is_done is_last some = (
+  record { column = d.column; op = d.op; negated = d.negated; low = d.low; row = d.row },
+  d.level.ors,
+  d.level.ands,
+  ap (λ (l : List Lexeme). reads d (Go part.MoreAnd ∷ Go part.MoreOr ∷ ss) (l ++ ts)) none ∙ ap (λ (l : Level). reads (record d { level = l }) (Go part.MoreAnd ∷ Go part.MoreOr ∷ ss) ts) same_level,
+  ap (λ (x : List Cond). x ++ and_of d.level.ands ∷ []) is_done ∙ ap (λ (x : Cond). done ++ x ∷ []) (sym is_last),
+  some,
+)
   where
     same_level : d.level ≡ halfway d.level d.level.ors d.level.ands
     same_level = ap (λ k. record d.level { nots = k }) no_nots
@@ -243,10 +253,14 @@ ors_read n read d done last (c ∷ cs) ls ss ts (a, b, one, more, is) no_nots fi
     let here = conjunction_reads n read to c a (Go part.MoreOr ∷ ss) (b ++ ts) one refl no_nots fits in
     let rest = ors_read n read (with_level to (record to.level { ands = here.1; nots = 0 }) here.0) (done ++ last ∷ []) c cs b ss ts more refl fits
     (ap (λ (x : List Cond). x ++ and_of d.level.ands ∷ []) is_done ∙ ap (λ (x : Cond). done ++ x ∷ []) (sym is_last)) here.3 here.4 in
-    let text : ls ++ ts ≡ word Or ∷ (a ++ (b ++ ts)) = ap (λ (l : List Lexeme). l ++ ts) is ∙ ap (λ (l : List Lexeme). word Or ∷ l) (append_assoc a b ts) in
-    (rest.0, rest.1, rest.2,
-    ap (λ (l : List Lexeme). reads d (Go part.MoreAnd ∷ Go part.MoreOr ∷ ss) l) text ∙ or_begins d ss (a ++ (b ++ ts)) ∙ here.2 ∙ rest.3,
-    rest.4 ∙ append_assoc done (last ∷ []) (c ∷ cs), rest.5)
+    let text : ls ++ ts ≡ word Or ∷ (a ++ (b ++ ts)) = ap (λ (l : List Lexeme). l ++ ts) is ∙ ap (λ (l : List Lexeme). word Or ∷ l) (append_assoc a b ts) in (
+      rest.0,
+      rest.1,
+      rest.2,
+      ap (λ (l : List Lexeme). reads d (Go part.MoreAnd ∷ Go part.MoreOr ∷ ss) l) text ∙ or_begins d ss (a ++ (b ++ ts)) ∙ here.2 ∙ rest.3,
+      rest.4 ∙ append_assoc done (last ∷ []) (c ∷ cs),
+      rest.5,
+    )
 
 -- a whole condition is read, from a level without members on
 pub record Whole (d : Draft) (from : List Symbol) (ls : List Lexeme) (ss : List Symbol) (ts : List Lexeme) (c : Cond) : Type 0 where
@@ -280,21 +294,23 @@ negated_reads : (n : ℕ) → Reading n → (d : Draft) (c : Cond) (ls : List Le
     → d.level.base + d.level.nots + suc n ≤ 64 → Adds d ss ls ts c
 negated_reads n read d c ls ss ts (e, rest, says, is_not, is) fits =
     let to = record d { level = record d.level { nots = d.level.nots + 1 } } in
-    let here = read to e rest ss ts says (omega (arith, fits)) in
-    (here.0,
-    ap (λ (l : List Lexeme). reads d (Go part.Condition ∷ ss) (l ++ ts)) is ∙ not_begins d ss (rest ++ ts) (shallow d.level n fits) ∙ here.1
-    ∙ ap (λ (x : Cond). reads (with_level d (record d.level { ands = d.level.ands ++ x ∷ []; nots = 0 }) here.0) ss ts) (not_more d.level.nots e ∙ ap (not_times d.level.nots) (sym is_not)))
+    let here = read to e rest ss ts says (omega (arith, fits)) in (
+      here.0,
+      ap (λ (l : List Lexeme). reads d (Go part.Condition ∷ ss) (l ++ ts)) is ∙ not_begins d ss (rest ++ ts) (shallow d.level n fits) ∙ here.1
+          ∙ ap (λ (x : Cond). reads (with_level d (record d.level { ands = d.level.ands ++ x ∷ []; nots = 0 }) here.0) ss ts) (not_more d.level.nots e ∙ ap (not_times d.level.nots) (sym is_not)),
+    )
 
 bracketed_reads : (n : ℕ) → Reading n → (d : Draft) (c : Cond) (ls : List Lexeme) (ss : List Symbol) (ts : List Lexeme) → IsBracketed (IsDisjunction (IsNegation n)) c ls
     → d.level.base + d.level.nots + suc n ≤ 64 → Adds d ss ls ts c
 bracketed_reads n read d c ls ss ts (inner, says, is) fits =
     let to = record d { level = record no_level { base = d.level.base + d.level.nots + 1 }; outer = d.level ∷ d.outer } in
     let here = condition_reads n read to c inner (acts Close role.Closed ∷ ss) (word Close ∷ ts) says refl refl refl (omega (arith, fits)) in
-    let text : ls ++ ts ≡ word Open ∷ (inner ++ (word Close ∷ ts)) = ap (λ (l : List Lexeme). l ++ ts) is ∙ ap (λ (l : List Lexeme). word Open ∷ l) (append_assoc inner (word Close ∷ []) ts) in
-    (here.scratch,
-    ap (λ (l : List Lexeme). reads d (Go part.Condition ∷ ss) l) text ∙ open_begins d ss (inner ++ (word Close ∷ ts)) (shallow d.level n fits) ∙ here.goes
-    ∙ close_ends (with_level to (halfway to.level here.ors here.ands) here.scratch) d.level d.outer ss ts
-    ∙ ap (λ (x : Cond). reads (with_level d (with_cond d.level x) here.scratch) ss ts) here.is)
+    let text : ls ++ ts ≡ word Open ∷ (inner ++ (word Close ∷ ts)) = ap (λ (l : List Lexeme). l ++ ts) is ∙ ap (λ (l : List Lexeme). word Open ∷ l) (append_assoc inner (word Close ∷ []) ts) in (
+      here.scratch,
+      ap (λ (l : List Lexeme). reads d (Go part.Condition ∷ ss) l) text ∙ open_begins d ss (inner ++ (word Close ∷ ts)) (shallow d.level n fits) ∙ here.goes
+          ∙ close_ends (with_level to (halfway to.level here.ors here.ands) here.scratch) d.level d.outer ss ts
+          ∙ ap (λ (x : Cond). reads (with_level d (with_cond d.level x) here.scratch) ss ts) here.is,
+    )
 
 pub negation_reads : (n : ℕ) → Reading n
 negation_reads zero d c ls ss ts says fits = tested_reads d c ls ss ts says

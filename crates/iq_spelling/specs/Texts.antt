@@ -22,7 +22,7 @@ use Rattle.iq_tokens.specs.declared.tokens.Mark.TheVariants.{Create, Drop, Inser
 use Rattle.iq_tokens.specs.declared.tokens.Lexeme.{Lexeme}
 use Rattle.iq_tokens.specs.declared.tokens.Lexeme.TheVariants as lexeme
 use Rattle.iq_grammar.specs.Draft.{has_column, has_change}
-use Rattle.iq_spelling.specs.Lists.{word, name, literal, IsLiteral, IsName, maybe_not, AreListed, Obey}
+use Rattle.iq_spelling.specs.Lists.{word, name, literal, IsLiteral, IsName, AreListed, Obey}
 use Rattle.iq_spelling.specs.Conditions.{IsCondition}
 
 -- ---- CREATE TABLE
