@@ -3,142 +3,138 @@ use iq_grammar::{ParseFault, parse};
 use std::alloc::Global;
 use std::test::Fail;
 
-/// What stands before the fault, and what stands at and behind it.
-const FAULTS: [(&str, &str); 130] = [
-    ("", ""),
-    (" \t ", ""),
-    ("", ";"),
-    ("", "SELEC x"),
-    ("", "SELEC x \u{7f}"),
-    ("", "t"),
-    ("", "'SELECT'"),
-    ("", "1"),
-    ("", "(SELECT a FROM t)"),
-    ("SYNC ", "SYNC"),
-    ("SYNC;", ";"),
-    ("SYNC ; ", "x"),
-    ("SYNC ", "-- all"),
-    ("", "a : SYNC"),
-    ("select", ": SYNC"),
-    ("SELECT", ""),
-    ("SELECT ", "FROM t"),
-    ("SELECT a", ""),
-    ("SELECT a ", "t"),
-    ("SELECT a,", ""),
-    ("SELECT a, ", "FROM t"),
-    ("SELECT a, ", "* FROM t"),
-    ("SELECT * ", ", a FROM t"),
-    ("SELECT a FROM", ""),
-    ("SELECT a FROM ", "1"),
-    ("SELECT a FROM ", "table"),
-    ("SELECT a FROM t", ", u"),
-    ("SELECT a FROM t ", "WHER b = 1"),
-    ("SELECT ", "table FROM t"),
-    ("SELECT ", "'a' FROM t"),
-    ("SELECT COUNT ", "FROM t"),
-    ("SELECT COUNT(", ") FROM t"),
-    ("SELECT COUNT(a ", ", b) FROM t"),
-    ("SELECT SUM(", "*) FROM t"),
-    ("SELECT MIN(a", ""),
-    ("EXPLAIN ", "DELETE FROM t"),
-    ("EXPLAIN ", "EXPLAIN SELECT a FROM t"),
-    ("SELECT a FROM t WHERE", ""),
-    ("SELECT a FROM t WHERE ", "1 = a"),
-    ("SELECT a FROM t WHERE a", ""),
-    ("SELECT a FROM t WHERE a ", "1"),
-    ("SELECT a FROM t WHERE a =", ""),
-    ("SELECT a FROM t WHERE a = ", "= 1"),
-    ("SELECT a FROM t WHERE a <", "< 1"),
-    ("SELECT a FROM t WHERE a ", "! 1"),
-    ("SELECT a FROM t WHERE a ", "! = 1"),
-    ("SELECT a FROM t WHERE a < ", "= 1"),
-    ("SELECT a FROM t WHERE a = 1 ", "b = 2"),
-    ("SELECT a FROM t WHERE a = 1 AND", ""),
-    ("SELECT a FROM t WHERE a = 1 OR ", "AND b = 2"),
-    ("SELECT a FROM t WHERE a = 1 AND ", "OR b = 2"),
-    ("SELECT a FROM t WHERE NOT", ""),
-    ("SELECT a FROM t WHERE a NOT ", "NOT IN (1)"),
-    ("SELECT a FROM t WHERE a NOT ", "= 1"),
-    ("SELECT a FROM t WHERE a NOT ", "NULL"),
-    ("SELECT a FROM t WHERE a IS ", "1"),
-    ("SELECT a FROM t WHERE a IS NOT ", "b"),
-    ("SELECT a FROM t WHERE a BETWEEN 1", ""),
-    ("SELECT a FROM t WHERE a BETWEEN 1 ", "OR 2"),
-    ("SELECT a FROM t WHERE a BETWEEN ", "b AND 2"),
-    ("SELECT a FROM t WHERE a BETWEEN 1 AND ", "b"),
-    ("SELECT a FROM t WHERE a IN (", ")"),
-    ("SELECT a FROM t WHERE a IN ", "1"),
-    ("SELECT a FROM t WHERE a IN (1, ", ")"),
-    ("SELECT a FROM t WHERE a IN (", "b)"),
-    ("SELECT a FROM t WHERE (a = 1", ""),
-    ("SELECT a FROM t WHERE (a = 1 ", "GROUP BY a)"),
-    ("SELECT a FROM t WHERE (a = 1)", ")"),
-    ("SELECT a FROM t WHERE (", ")"),
-    ("SELECT a FROM t WHERE a=", "1and b=2"),
-    ("SELECT a FROM t GROUP ", "a"),
-    ("SELECT a FROM t GROUP BY", ""),
-    ("SELECT a FROM t ORDER BY a ", "GROUP BY a"),
-    ("SELECT a FROM t ORDER BY a DESC ", "ASC"),
-    ("SELECT a FROM t GROUP BY a ", "WHERE a = 1"),
-    ("SELECT a FROM t ORDER BY ", "1"),
-    ("INSERT ", "t VALUES (1)"),
-    ("INSERT INTO t ", "(1)"),
-    ("INSERT INTO t VALUES", ""),
-    ("INSERT INTO t VALUES (", ")"),
-    ("INSERT INTO t VALUES (", "a)"),
-    ("INSERT INTO t VALUES (", "+1)"),
-    ("INSERT INTO t VALUES (", "- 1)"),
-    ("INSERT INTO t VALUES (1 ", "2)"),
-    ("INSERT INTO t VALUES (1),", ""),
-    ("INSERT INTO t VALUES (1) ", "(2)"),
-    ("INSERT INTO t VALUES (", "12ab)"),
-    ("INSERT INTO t VALUES (1, ", "9223372036854775808)"),
-    ("INSERT INTO t VALUES (1, ", "-9223372036854775809)"),
-    (
-        "INSERT INTO t VALUES (1, ",
-        "99999999999999999999999999999999999999999)",
-    ),
-    ("INSERT INTO t VALUES (", "'abc)"),
-    ("INSERT INTO t VALUES (", "'abc'')"),
-    ("INSERT INTO t VALUES ('a' ", "'b')"),
-    ("INSERT INTO t VALUES (", "\"a\")"),
-    ("INSERT INTO t VALUES (", "ä)"),
-    ("INSERT INTO t VALUES (1)", "\0"),
-    ("INSERT INTO t VALUES (1)", "\r"),
-    ("LOAD TABLE t ROWS ", "0"),
-    ("LOAD TABLE t ROWS ", "-1"),
-    ("LOAD TABLE t ROWS ", "1000001"),
-    ("LOAD TABLE t ROWS ", "x"),
-    ("DELETE ", "t"),
-    ("UPDATE t SET a = ", "b"),
-    ("UPDATE t SET a = 1, ", "a = 2"),
-    ("UPDATE t SET a = 1,", ""),
-    ("CREATE TABLE t (", ")"),
-    ("CREATE TABLE t (a ", "TEXT)"),
-    ("CREATE TABLE t (a INT ", "b INT)"),
-    ("CREATE TABLE t (a INT, ", "A INT)"),
-    ("CREATE TABLE t (a INT NOT ", "b INT)"),
-    ("CREATE TABLE t (a VARCHAR(", "0))"),
-    ("CREATE TABLE t (a VARCHAR(", "256))"),
-    ("CREATE TABLE t (a VARCHAR ", "NULL)"),
-    ("CREATE ", "INDEX i ON t (a)"),
-    ("CREATE LF INDEX i ON t (a", ", b)"),
-    ("CREATE CMP INDEX i ON t (a", ")"),
-    ("CREATE CMP INDEX i ON t (a, ", "a)"),
-    ("DROP INDEX ", ".i"),
-    ("DROP INDEX t", ""),
-    ("DROP TABLE t", ".i"),
-    ("BEGIN", ""),
-    ("BEGIN ", "WORK"),
-    ("ROLLBACK TO ", "p"),
-    ("ROLLBACK ", "SAVEPOINT p"),
-    ("RELEASE ", "p"),
-    ("SAVEPOINT ", "savepoint"),
-    ("SELECT ", "abcdefghijklmnopqrstuvwxyz01234 FROM t"),
-    ("SELECT ", "catalog FROM t"),
-    ("SELECT ", "excluded FROM t"),
-    ("DROP TABLE ", "writer"),
-];
+/// A text a line: what stands before the fault, a bar, and what stands at and behind it.
+const FAULTS: &str = "\
+|\n\
+\x20\t |\n\
+|;\n\
+|SELEC x\n\
+|SELEC x \u{7f}\n\
+|t\n\
+|'SELECT'\n\
+|1\n\
+|(SELECT a FROM t)\n\
+SYNC |SYNC\n\
+SYNC;|;\n\
+SYNC ; |x\n\
+SYNC |-- all\n\
+|a : SYNC\n\
+select|: SYNC\n\
+SELECT|\n\
+SELECT |FROM t\n\
+SELECT a|\n\
+SELECT a |t\n\
+SELECT a,|\n\
+SELECT a, |FROM t\n\
+SELECT a, |* FROM t\n\
+SELECT * |, a FROM t\n\
+SELECT a FROM|\n\
+SELECT a FROM |1\n\
+SELECT a FROM |table\n\
+SELECT a FROM t|, u\n\
+SELECT a FROM t |WHER b = 1\n\
+SELECT |table FROM t\n\
+SELECT |'a' FROM t\n\
+SELECT COUNT |FROM t\n\
+SELECT COUNT(|) FROM t\n\
+SELECT COUNT(a |, b) FROM t\n\
+SELECT SUM(|*) FROM t\n\
+SELECT MIN(a|\n\
+EXPLAIN |DELETE FROM t\n\
+EXPLAIN |EXPLAIN SELECT a FROM t\n\
+SELECT a FROM t WHERE|\n\
+SELECT a FROM t WHERE |1 = a\n\
+SELECT a FROM t WHERE a|\n\
+SELECT a FROM t WHERE a |1\n\
+SELECT a FROM t WHERE a =|\n\
+SELECT a FROM t WHERE a = |= 1\n\
+SELECT a FROM t WHERE a <|< 1\n\
+SELECT a FROM t WHERE a |! 1\n\
+SELECT a FROM t WHERE a |! = 1\n\
+SELECT a FROM t WHERE a < |= 1\n\
+SELECT a FROM t WHERE a = 1 |b = 2\n\
+SELECT a FROM t WHERE a = 1 AND|\n\
+SELECT a FROM t WHERE a = 1 OR |AND b = 2\n\
+SELECT a FROM t WHERE a = 1 AND |OR b = 2\n\
+SELECT a FROM t WHERE NOT|\n\
+SELECT a FROM t WHERE a NOT |NOT IN (1)\n\
+SELECT a FROM t WHERE a NOT |= 1\n\
+SELECT a FROM t WHERE a NOT |NULL\n\
+SELECT a FROM t WHERE a IS |1\n\
+SELECT a FROM t WHERE a IS NOT |b\n\
+SELECT a FROM t WHERE a BETWEEN 1|\n\
+SELECT a FROM t WHERE a BETWEEN 1 |OR 2\n\
+SELECT a FROM t WHERE a BETWEEN |b AND 2\n\
+SELECT a FROM t WHERE a BETWEEN 1 AND |b\n\
+SELECT a FROM t WHERE a IN (|)\n\
+SELECT a FROM t WHERE a IN |1\n\
+SELECT a FROM t WHERE a IN (1, |)\n\
+SELECT a FROM t WHERE a IN (|b)\n\
+SELECT a FROM t WHERE (a = 1|\n\
+SELECT a FROM t WHERE (a = 1 |GROUP BY a)\n\
+SELECT a FROM t WHERE (a = 1)|)\n\
+SELECT a FROM t WHERE (|)\n\
+SELECT a FROM t WHERE a=|1and b=2\n\
+SELECT a FROM t GROUP |a\n\
+SELECT a FROM t GROUP BY|\n\
+SELECT a FROM t ORDER BY a |GROUP BY a\n\
+SELECT a FROM t ORDER BY a DESC |ASC\n\
+SELECT a FROM t GROUP BY a |WHERE a = 1\n\
+SELECT a FROM t ORDER BY |1\n\
+INSERT |t VALUES (1)\n\
+INSERT INTO t |(1)\n\
+INSERT INTO t VALUES|\n\
+INSERT INTO t VALUES (|)\n\
+INSERT INTO t VALUES (|a)\n\
+INSERT INTO t VALUES (|+1)\n\
+INSERT INTO t VALUES (|- 1)\n\
+INSERT INTO t VALUES (1 |2)\n\
+INSERT INTO t VALUES (1),|\n\
+INSERT INTO t VALUES (1) |(2)\n\
+INSERT INTO t VALUES (|12ab)\n\
+INSERT INTO t VALUES (1, |9223372036854775808)\n\
+INSERT INTO t VALUES (1, |-9223372036854775809)\n\
+INSERT INTO t VALUES (1, |99999999999999999999999999999999999999999)\n\
+INSERT INTO t VALUES (|'abc)\n\
+INSERT INTO t VALUES (|'abc'')\n\
+INSERT INTO t VALUES ('a' |'b')\n\
+INSERT INTO t VALUES (|\"a\")\n\
+INSERT INTO t VALUES (|ä)\n\
+INSERT INTO t VALUES (1)|\0\n\
+INSERT INTO t VALUES (1)|\r\n\
+LOAD TABLE t ROWS |0\n\
+LOAD TABLE t ROWS |-1\n\
+LOAD TABLE t ROWS |1000001\n\
+LOAD TABLE t ROWS |x\n\
+DELETE |t\n\
+UPDATE t SET a = |b\n\
+UPDATE t SET a = 1, |a = 2\n\
+UPDATE t SET a = 1,|\n\
+CREATE TABLE t (|)\n\
+CREATE TABLE t (a |TEXT)\n\
+CREATE TABLE t (a INT |b INT)\n\
+CREATE TABLE t (a INT, |A INT)\n\
+CREATE TABLE t (a INT NOT |b INT)\n\
+CREATE TABLE t (a VARCHAR(|0))\n\
+CREATE TABLE t (a VARCHAR(|256))\n\
+CREATE TABLE t (a VARCHAR |NULL)\n\
+CREATE |INDEX i ON t (a)\n\
+CREATE LF INDEX i ON t (a|, b)\n\
+CREATE CMP INDEX i ON t (a|)\n\
+CREATE CMP INDEX i ON t (a, |a)\n\
+DROP INDEX |.i\n\
+DROP INDEX t|\n\
+DROP TABLE t|.i\n\
+BEGIN|\n\
+BEGIN |WORK\n\
+ROLLBACK TO |p\n\
+ROLLBACK |SAVEPOINT p\n\
+RELEASE |p\n\
+SAVEPOINT |savepoint\n\
+SELECT |abcdefghijklmnopqrstuvwxyz01234 FROM t\n\
+SELECT |catalog FROM t\n\
+SELECT |excluded FROM t\n\
+DROP TABLE |writer\n";
 
 /// The place of a text's fault, or 0 where it is of the grammar.
 fn place_of(alloc: Global, text: &str) -> usize {
@@ -151,13 +147,18 @@ fn place_of(alloc: Global, text: &str) -> usize {
 
 #[test]
 fn each_fault_has_its_place(rt: HostRuntime) -> Result<(), Fail> {
-    for (front, rest) in FAULTS {
-        let text = format!(in rt.alloc(); "{front}{rest}")?;
-        assert_eq!(rt;
-            place_of(rt.alloc(), text.as_str()),
-            front.len() + 1,
-            "{front} | {rest}"
-        );
+    let mut rows = 0;
+    for row in FAULTS.split('\n') {
+        if let Some((front, rest)) = row.split_once('|') {
+            let text = format!(in rt.alloc(); "{front}{rest}")?;
+            assert_eq!(rt;
+                place_of(rt.alloc(), text.as_str()),
+                front.len() + 1,
+                "{row}"
+            );
+            rows += 1;
+        }
     }
+    assert_eq!(rt; rows, 130);
     Ok(())
 }
