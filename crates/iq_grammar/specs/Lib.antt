@@ -1,0 +1,4 @@
+pub mod Grammar
+pub mod Draft
+pub mod Reading
+pub mod Statements

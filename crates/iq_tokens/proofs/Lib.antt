@@ -1,0 +1,4 @@
+pub mod Cutting
+pub mod Quoting
+pub mod OneKind
+pub mod Reserved
