@@ -1,10 +1,14 @@
-//! Tests of the plain program of runs: scripts that were built by hand, beside replies that were written by hand.
+//! Tests of the plain program of runs: tables of lines, each beside the reply that was written by hand.
 #![tactic(auto)]
 
 #[cfg(test)]
-mod made;
+mod queries;
+#[cfg(test)]
+mod replies;
 #[cfg(test)]
 mod reports;
+#[cfg(test)]
+mod script;
 #[cfg(test)]
 mod sessions;
 #[cfg(test)]

@@ -1,122 +1,82 @@
 //! Lines of several sessions: locks, later commits, and a reader's position.
-use crate::made::{all, create, insert, line, name, no_lines, refused, rows, says};
-use iq_ast::Statement;
-use iq_base::Refusal;
-use iq_model::Said;
+use crate::replies::{has_entries, says};
+use crate::script::{Lines, PAIR, READER, WRITER};
 use std::test::Fail;
+
+const TWO_WRITERS: Lines = &[
+    ("a", "CREATE TABLE t (x INT NULL)", "created commit 1"),
+    ("a", "BEGIN TRANSACTION", "begun 1"),
+    ("b", "BEGIN TRANSACTION", "begun 1"),
+    ("a", "INSERT INTO t VALUES (1)", "inserted 1"),
+    ("b", "INSERT INTO t VALUES (2)", "refused Locked t a"),
+    ("a", "COMMIT", "committed 2"),
+    ("b", "INSERT INTO t VALUES (3)", "refused Later t 2"),
+    ("b", "SELECT * FROM t", "rows 0"),
+    ("b", "COMMIT", "ended"),
+    ("b", "INSERT INTO t VALUES (4)", "inserted 1 commit 3"),
+    ("b", "SELECT * FROM t", "rows 2\n  1\n  4"),
+];
 
 #[test]
 fn the_first_writer_wins(rt: HostRuntime) -> Result<(), Fail> {
-    let alloc = rt.alloc();
-    let mut script = no_lines(alloc)?;
-    line(&mut script, 1, 0, create(alloc)?)?;
-    line(&mut script, 2, 0, Statement::Begin)?;
-    line(&mut script, 3, 1, Statement::Begin)?;
-    line(&mut script, 4, 0, insert(alloc, 1)?)?;
-    line(&mut script, 5, 1, insert(alloc, 2)?)?;
-    line(&mut script, 6, 0, Statement::Commit)?;
-    line(&mut script, 7, 1, insert(alloc, 3)?)?;
-    line(&mut script, 8, 1, all(alloc)?)?;
-    line(&mut script, 9, 1, Statement::Commit)?;
-    line(&mut script, 10, 1, insert(alloc, 4)?)?;
-    line(&mut script, 11, 1, all(alloc)?)?;
-    let want = [
-        Said::Created { commit: Some(1) },
-        Said::Begun { commit: 1 },
-        Said::Begun { commit: 1 },
-        Said::Inserted {
-            rows: 1,
-            commit: None,
-        },
-        refused(Refusal::Locked {
-            table: name("t")?,
-            session: 0,
-        }),
-        Said::Committed { commit: 2 },
-        refused(Refusal::Later {
-            table: name("t")?,
-            commit: 2,
-        }),
-        rows(alloc, &[])?,
-        Said::Ended,
-        Said::Inserted {
-            rows: 1,
-            commit: Some(3),
-        },
-        rows(alloc, &[1, 4])?,
-    ];
-    says(&rt, &script, &want)
+    says(&rt, &PAIR, TWO_WRITERS)
 }
+
+const LOCKED: Lines = &[
+    ("a", "CREATE TABLE t (x INT NULL)", "created commit 1"),
+    ("b", "SYNC", "synced 1"),
+    ("a", "BEGIN TRANSACTION", "begun 1"),
+    ("a", "INSERT INTO t VALUES (1)", "inserted 1"),
+    ("b", "BEGIN TRANSACTION", "begun 1"),
+    ("b", "INSERT INTO t VALUES (2)", "refused Locked t a"),
+    ("a", "COMMIT", "committed 2"),
+    ("b", "INSERT INTO t VALUES (2)", "refused Later t 2"),
+    ("b", "ROLLBACK", "rolled back"),
+    ("b", "SYNC", "synced 2"),
+    ("b", "INSERT INTO t VALUES (2)", "inserted 1 commit 3"),
+    ("b", "SELECT x FROM t", "rows 2\n  1\n  2"),
+];
+
+#[test]
+fn a_writer_on_another_node_writes_once_it_is_at_the_latest_commit(
+    rt: HostRuntime,
+) -> Result<(), Fail> {
+    says(&rt, &WRITER, LOCKED)?;
+    has_entries(&rt, &WRITER, LOCKED, 21)
+}
+
+const LOCKED_BEHIND_A_SAVEPOINT: Lines = &[
+    ("a", "CREATE TABLE t (x INT NULL)", "created commit 1"),
+    ("a", "BEGIN TRANSACTION", "begun 1"),
+    ("a", "SAVEPOINT p", "savepoint p"),
+    ("a", "INSERT INTO t VALUES (1)", "inserted 1"),
+    ("a", "ROLLBACK TO SAVEPOINT p", "back to p"),
+    ("b", "INSERT INTO t VALUES (2)", "refused Locked t a"),
+    ("a", "ROLLBACK", "rolled back"),
+    ("b", "INSERT INTO t VALUES (3)", "inserted 1 commit 2"),
+    ("b", "SELECT * FROM t", "rows 1\n  3"),
+];
 
 #[test]
 fn locks_stay_behind_a_savepoint(rt: HostRuntime) -> Result<(), Fail> {
-    let alloc = rt.alloc();
-    let mut script = no_lines(alloc)?;
-    line(&mut script, 1, 0, create(alloc)?)?;
-    line(&mut script, 2, 0, Statement::Begin)?;
-    line(&mut script, 3, 0, Statement::Savepoint(name("s")?))?;
-    line(&mut script, 4, 0, insert(alloc, 1)?)?;
-    line(&mut script, 5, 0, Statement::BackTo(name("s")?))?;
-    line(&mut script, 6, 1, insert(alloc, 2)?)?;
-    line(&mut script, 7, 0, Statement::Rollback)?;
-    line(&mut script, 8, 1, insert(alloc, 3)?)?;
-    line(&mut script, 9, 1, all(alloc)?)?;
-    let want = [
-        Said::Created { commit: Some(1) },
-        Said::Begun { commit: 1 },
-        Said::Saved { name: name("s")? },
-        Said::Inserted {
-            rows: 1,
-            commit: None,
-        },
-        Said::BackTo { name: name("s")? },
-        refused(Refusal::Locked {
-            table: name("t")?,
-            session: 0,
-        }),
-        Said::RolledBack,
-        Said::Inserted {
-            rows: 1,
-            commit: Some(2),
-        },
-        rows(alloc, &[3])?,
-    ];
-    says(&rt, &script, &want)
+    says(&rt, &PAIR, LOCKED_BEHIND_A_SAVEPOINT)
 }
+
+const POSITIONED: Lines = &[
+    ("a", "CREATE TABLE t (x INT NULL)", "created commit 1"),
+    ("a", "INSERT INTO t VALUES (1)", "inserted 1 commit 2"),
+    ("b", "SELECT * FROM t", "refused NoTable t"),
+    ("b", "SYNC", "synced 2"),
+    ("b", "SELECT * FROM t", "rows 1\n  1"),
+    ("a", "INSERT INTO t VALUES (2)", "inserted 1 commit 3"),
+    ("b", "SELECT * FROM t", "rows 1\n  1"),
+    ("b", "INSERT INTO t VALUES (3)", "refused ReadOnly r1"),
+    ("b", "BEGIN TRANSACTION", "begun 2"),
+    ("b", "SYNC", "refused InTransaction"),
+    ("b", "ROLLBACK", "rolled back"),
+];
 
 #[test]
 fn a_reader_reads_at_its_position(rt: HostRuntime) -> Result<(), Fail> {
-    let alloc = rt.alloc();
-    let mut script = no_lines(alloc)?;
-    line(&mut script, 1, 0, create(alloc)?)?;
-    line(&mut script, 2, 0, insert(alloc, 1)?)?;
-    line(&mut script, 3, 2, all(alloc)?)?;
-    line(&mut script, 4, 2, Statement::Sync)?;
-    line(&mut script, 5, 2, all(alloc)?)?;
-    line(&mut script, 6, 0, insert(alloc, 2)?)?;
-    line(&mut script, 7, 2, all(alloc)?)?;
-    line(&mut script, 8, 2, insert(alloc, 3)?)?;
-    line(&mut script, 9, 2, Statement::Begin)?;
-    line(&mut script, 10, 2, Statement::Sync)?;
-    line(&mut script, 11, 2, Statement::Rollback)?;
-    let want = [
-        Said::Created { commit: Some(1) },
-        Said::Inserted {
-            rows: 1,
-            commit: Some(2),
-        },
-        refused(Refusal::NoTable { name: name("t")? }),
-        Said::Synced { commit: 2 },
-        rows(alloc, &[1])?,
-        Said::Inserted {
-            rows: 1,
-            commit: Some(3),
-        },
-        rows(alloc, &[1])?,
-        refused(Refusal::ReadOnly { node: name("r")? }),
-        Said::Begun { commit: 2 },
-        refused(Refusal::InTransaction),
-        Said::RolledBack,
-    ];
-    says(&rt, &script, &want)
+    says(&rt, &READER, POSITIONED)
 }

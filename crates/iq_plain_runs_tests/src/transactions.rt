@@ -1,172 +1,147 @@
 //! Lines of one session: alone, in transactions, and with savepoints.
-use crate::made::{
-    all, create, drop_table, insert, line, name, no_lines, refused, rows, run, says,
-};
-use iq_ast::Statement;
-use iq_base::Refusal;
-use iq_model::Said;
+use crate::replies::{has_entries, says};
+use crate::script::{ALONE, Lines, PAIR};
 use std::test::Fail;
+
+const SINGLE_LINES: Lines = &[
+    ("s", "SELECT * FROM t", "refused NoTable t"),
+    ("s", "CREATE TABLE t (x INT NULL)", "created commit 1"),
+    ("s", "INSERT INTO t VALUES (1)", "inserted 1 commit 2"),
+    ("s", "CREATE TABLE t (x INT NULL)", "refused TableExists t"),
+    ("s", "INSERT INTO t VALUES (2)", "inserted 1 commit 3"),
+    ("s", "SELECT * FROM t", "rows 2\n  1\n  2"),
+    ("s", "DROP TABLE t", "dropped commit 4"),
+    ("s", "SELECT * FROM t", "refused NoTable t"),
+];
 
 #[test]
 fn lines_alone_are_committed_one_by_one(rt: HostRuntime) -> Result<(), Fail> {
-    let alloc = rt.alloc();
-    let mut script = no_lines(alloc)?;
-    line(&mut script, 1, 0, all(alloc)?)?;
-    line(&mut script, 2, 0, create(alloc)?)?;
-    line(&mut script, 3, 0, insert(alloc, 1)?)?;
-    line(&mut script, 4, 0, create(alloc)?)?;
-    line(&mut script, 5, 0, insert(alloc, 2)?)?;
-    line(&mut script, 6, 0, all(alloc)?)?;
-    line(&mut script, 7, 0, drop_table()?)?;
-    line(&mut script, 8, 0, all(alloc)?)?;
-    let want = [
-        refused(Refusal::NoTable { name: name("t")? }),
-        Said::Created { commit: Some(1) },
-        Said::Inserted {
-            rows: 1,
-            commit: Some(2),
-        },
-        refused(Refusal::TableExists { name: name("t")? }),
-        Said::Inserted {
-            rows: 1,
-            commit: Some(3),
-        },
-        rows(alloc, &[1, 2])?,
-        Said::Dropped { commit: Some(4) },
-        refused(Refusal::NoTable { name: name("t")? }),
-    ];
-    says(&rt, &script, &want)
+    says(&rt, &ALONE, SINGLE_LINES)
 }
+
+const COMMITTED: Lines = &[
+    ("s", "CREATE TABLE t (x INT NULL)", "created commit 1"),
+    ("s", "BEGIN TRANSACTION", "begun 1"),
+    ("s", "INSERT INTO t VALUES (1)", "inserted 1"),
+    ("s", "INSERT INTO t VALUES (2)", "inserted 1"),
+    ("s", "SELECT * FROM t", "rows 2\n  1\n  2"),
+    ("s", "COMMIT", "committed 2"),
+    ("s", "BEGIN TRANSACTION", "begun 2"),
+    ("s", "SELECT * FROM t", "rows 2\n  1\n  2"),
+    ("s", "COMMIT", "ended"),
+];
 
 #[test]
 fn a_transaction_is_committed_as_one(rt: HostRuntime) -> Result<(), Fail> {
-    let alloc = rt.alloc();
-    let mut script = no_lines(alloc)?;
-    line(&mut script, 1, 0, create(alloc)?)?;
-    line(&mut script, 2, 0, Statement::Begin)?;
-    line(&mut script, 3, 0, insert(alloc, 1)?)?;
-    line(&mut script, 4, 0, insert(alloc, 2)?)?;
-    line(&mut script, 5, 0, all(alloc)?)?;
-    line(&mut script, 6, 0, Statement::Commit)?;
-    line(&mut script, 7, 0, Statement::Begin)?;
-    line(&mut script, 8, 0, all(alloc)?)?;
-    line(&mut script, 9, 0, Statement::Commit)?;
-    let want = [
-        Said::Created { commit: Some(1) },
-        Said::Begun { commit: 1 },
-        Said::Inserted {
-            rows: 1,
-            commit: None,
-        },
-        Said::Inserted {
-            rows: 1,
-            commit: None,
-        },
-        rows(alloc, &[1, 2])?,
-        Said::Committed { commit: 2 },
-        Said::Begun { commit: 2 },
-        rows(alloc, &[1, 2])?,
-        Said::Ended,
-    ];
-    says(&rt, &script, &want)
+    says(&rt, &ALONE, COMMITTED)
 }
+
+const ROLLED_BACK: Lines = &[
+    ("s", "CREATE TABLE t (x INT NULL)", "created commit 1"),
+    ("s", "BEGIN TRANSACTION", "begun 1"),
+    ("s", "INSERT INTO t VALUES (1)", "inserted 1"),
+    ("s", "ROLLBACK", "rolled back"),
+    ("s", "SELECT * FROM t", "rows 0"),
+    ("s", "ROLLBACK", "refused NoTransaction"),
+    ("s", "COMMIT", "refused NoTransaction"),
+];
 
 #[test]
 fn a_rollback_leaves_nothing(rt: HostRuntime) -> Result<(), Fail> {
-    let alloc = rt.alloc();
-    let mut script = no_lines(alloc)?;
-    line(&mut script, 1, 0, create(alloc)?)?;
-    line(&mut script, 2, 0, Statement::Begin)?;
-    line(&mut script, 3, 0, insert(alloc, 1)?)?;
-    line(&mut script, 4, 0, Statement::Rollback)?;
-    line(&mut script, 5, 0, all(alloc)?)?;
-    line(&mut script, 6, 0, Statement::Rollback)?;
-    line(&mut script, 7, 0, Statement::Commit)?;
-    let want = [
-        Said::Created { commit: Some(1) },
-        Said::Begun { commit: 1 },
-        Said::Inserted {
-            rows: 1,
-            commit: None,
-        },
-        Said::RolledBack,
-        rows(alloc, &[])?,
-        refused(Refusal::NoTransaction),
-        refused(Refusal::NoTransaction),
-    ];
-    says(&rt, &script, &want)
+    says(&rt, &ALONE, ROLLED_BACK)
 }
+
+const SAVED: Lines = &[
+    ("s", "CREATE TABLE t (x INT NULL)", "created commit 1"),
+    ("s", "BEGIN TRANSACTION", "begun 1"),
+    ("s", "INSERT INTO t VALUES (1)", "inserted 1"),
+    ("s", "SAVEPOINT p", "savepoint p"),
+    ("s", "INSERT INTO t VALUES (2)", "inserted 1"),
+    ("s", "ROLLBACK TO SAVEPOINT p", "back to p"),
+    ("s", "SELECT * FROM t", "rows 1\n  1"),
+    ("s", "INSERT INTO t VALUES (3)", "inserted 1"),
+    ("s", "RELEASE SAVEPOINT p", "released p"),
+    ("s", "ROLLBACK TO SAVEPOINT p", "refused NoSavepoint p"),
+    ("s", "COMMIT", "committed 2"),
+    ("s", "SELECT * FROM t", "rows 2\n  1\n  3"),
+];
 
 #[test]
 fn a_savepoint_gives_its_tables_back(rt: HostRuntime) -> Result<(), Fail> {
-    let alloc = rt.alloc();
-    let mut script = no_lines(alloc)?;
-    line(&mut script, 1, 0, create(alloc)?)?;
-    line(&mut script, 2, 0, Statement::Begin)?;
-    line(&mut script, 3, 0, insert(alloc, 1)?)?;
-    line(&mut script, 4, 0, Statement::Savepoint(name("s")?))?;
-    line(&mut script, 5, 0, insert(alloc, 2)?)?;
-    line(&mut script, 6, 0, Statement::BackTo(name("s")?))?;
-    line(&mut script, 7, 0, all(alloc)?)?;
-    line(&mut script, 8, 0, insert(alloc, 3)?)?;
-    line(&mut script, 9, 0, Statement::Release(name("s")?))?;
-    line(&mut script, 10, 0, Statement::BackTo(name("s")?))?;
-    line(&mut script, 11, 0, Statement::Commit)?;
-    line(&mut script, 12, 0, all(alloc)?)?;
-    let want = [
-        Said::Created { commit: Some(1) },
-        Said::Begun { commit: 1 },
-        Said::Inserted {
-            rows: 1,
-            commit: None,
-        },
-        Said::Saved { name: name("s")? },
-        Said::Inserted {
-            rows: 1,
-            commit: None,
-        },
-        Said::BackTo { name: name("s")? },
-        rows(alloc, &[1])?,
-        Said::Inserted {
-            rows: 1,
-            commit: None,
-        },
-        Said::Released { name: name("s")? },
-        refused(Refusal::NoSavepoint { name: name("s")? }),
-        Said::Committed { commit: 2 },
-        rows(alloc, &[1, 3])?,
-    ];
-    says(&rt, &script, &want)
+    says(&rt, &ALONE, SAVED)
 }
+
+const SAVED_AGAIN: Lines = &[
+    ("s", "CREATE TABLE t (x INT NULL)", "created commit 1"),
+    ("s", "BEGIN TRANSACTION", "begun 1"),
+    ("s", "INSERT INTO t VALUES (1)", "inserted 1"),
+    ("s", "SAVEPOINT p", "savepoint p"),
+    ("s", "INSERT INTO t VALUES (2)", "inserted 1"),
+    ("s", "ROLLBACK TO SAVEPOINT p", "back to p"),
+    ("s", "INSERT INTO t VALUES (3)", "inserted 1"),
+    ("s", "ROLLBACK TO SAVEPOINT p", "back to p"),
+    ("s", "INSERT INTO t VALUES (4)", "inserted 1"),
+    ("s", "RELEASE SAVEPOINT p", "released p"),
+    ("s", "ROLLBACK TO SAVEPOINT p", "refused NoSavepoint p"),
+    ("s", "SELECT x FROM t", "rows 2\n  1\n  4"),
+    ("s", "CREATE TABLE u (y INT NULL)", "refused DdlInTransaction"),
+    ("s", "BEGIN TRANSACTION", "refused InTransaction"),
+    ("s", "COMMIT", "committed 2"),
+    ("s", "COMMIT", "refused NoTransaction"),
+];
+
+#[test]
+fn a_savepoint_is_gone_back_to_as_often_as_wanted(rt: HostRuntime) -> Result<(), Fail> {
+    says(&rt, &ALONE, SAVED_AGAIN)
+}
+
+const MANY_SAVED: Lines = &[
+    ("s", "BEGIN TRANSACTION", "begun 0"),
+    ("s", "SAVEPOINT p0", "savepoint p0"),
+    ("s", "SAVEPOINT p1", "savepoint p1"),
+    ("s", "SAVEPOINT p2", "savepoint p2"),
+    ("s", "SAVEPOINT p3", "savepoint p3"),
+    ("s", "SAVEPOINT p4", "savepoint p4"),
+    ("s", "SAVEPOINT p5", "savepoint p5"),
+    ("s", "SAVEPOINT p6", "savepoint p6"),
+    ("s", "SAVEPOINT p7", "savepoint p7"),
+    ("s", "SAVEPOINT p8", "savepoint p8"),
+    ("s", "SAVEPOINT p9", "savepoint p9"),
+    ("s", "SAVEPOINT p10", "savepoint p10"),
+    ("s", "SAVEPOINT p11", "savepoint p11"),
+    ("s", "SAVEPOINT p12", "savepoint p12"),
+    ("s", "SAVEPOINT p13", "savepoint p13"),
+    ("s", "SAVEPOINT p14", "savepoint p14"),
+    ("s", "SAVEPOINT p15", "savepoint p15"),
+    ("s", "SAVEPOINT p16", "refused TooManySavepoints"),
+];
+
+#[test]
+fn a_transaction_has_sixteen_savepoints_at_most(rt: HostRuntime) -> Result<(), Fail> {
+    says(&rt, &ALONE, MANY_SAVED)
+}
+
+const REFUSED: Lines = &[
+    ("s", "CREATE TABLE t (x INT NULL)", "created commit 1"),
+    ("s", "BEGIN TRANSACTION", "begun 1"),
+    ("s", "BEGIN TRANSACTION", "refused InTransaction"),
+    ("s", "DROP TABLE t", "refused DdlInTransaction"),
+    ("s", "SYNC", "refused InTransaction"),
+    ("s", "COMMIT", "ended"),
+];
 
 #[test]
 fn a_transaction_refuses_another_and_tables(rt: HostRuntime) -> Result<(), Fail> {
-    let alloc = rt.alloc();
-    let mut script = no_lines(alloc)?;
-    line(&mut script, 1, 0, create(alloc)?)?;
-    line(&mut script, 2, 0, Statement::Begin)?;
-    line(&mut script, 3, 0, Statement::Begin)?;
-    line(&mut script, 4, 0, drop_table()?)?;
-    line(&mut script, 5, 0, Statement::Sync)?;
-    line(&mut script, 6, 0, Statement::Commit)?;
-    let want = [
-        Said::Created { commit: Some(1) },
-        Said::Begun { commit: 1 },
-        refused(Refusal::InTransaction),
-        refused(Refusal::DdlInTransaction),
-        refused(Refusal::InTransaction),
-        Said::Ended,
-    ];
-    says(&rt, &script, &want)
+    says(&rt, &ALONE, REFUSED)
 }
+
+const RUNNING: Lines = &[
+    ("a", "BEGIN TRANSACTION", "begun 0"),
+    ("b", "BEGIN TRANSACTION", "begun 0"),
+];
 
 #[test]
 fn what_still_runs_at_the_end_is_rolled_back(rt: HostRuntime) -> Result<(), Fail> {
-    let alloc = rt.alloc();
-    let mut script = no_lines(alloc)?;
-    line(&mut script, 1, 0, Statement::Begin)?;
-    line(&mut script, 2, 1, Statement::Begin)?;
-    let ended = run(alloc, &script)?;
-    assert_eq!(&rt; ended.entries().len(), 4);
-    Ok(())
+    says(&rt, &PAIR, RUNNING)?;
+    has_entries(&rt, &PAIR, RUNNING, 4)
 }
