@@ -10,7 +10,11 @@ fn a_script_without_lines_has_no_entries(rt: HostRuntime) -> Result<(), Fail> {
 
 const EMPTY: Lines = &[
     ("s", "CREATE TABLE t (x INT NULL)", "created commit 1"),
-    ("s", "SELECT COUNT(*), SUM(x), MIN(x) FROM t", "rows 1\n  0,NULL,NULL"),
+    (
+        "s",
+        "SELECT COUNT(*), SUM(x), MIN(x) FROM t",
+        "rows 1\n  0,NULL,NULL",
+    ),
     ("s", "SELECT x FROM t", "rows 0"),
 ];
 
@@ -21,7 +25,11 @@ fn aggregates_of_an_empty_table_are_one_row(rt: HostRuntime) -> Result<(), Fail>
 
 const NULLS: Lines = &[
     ("s", "CREATE TABLE t (x INT NULL)", "created commit 1"),
-    ("s", "INSERT INTO t VALUES (1), (2), (NULL)", "inserted 3 commit 2"),
+    (
+        "s",
+        "INSERT INTO t VALUES (1), (2), (NULL)",
+        "inserted 3 commit 2",
+    ),
     ("s", "SELECT x FROM t WHERE x <> 1", "rows 1\n  2"),
     ("s", "SELECT x FROM t WHERE NOT x <> 1", "rows 1\n  1"),
     ("s", "SELECT x FROM t WHERE x IS NULL", "rows 1\n  NULL"),
@@ -44,7 +52,11 @@ const REMOVED: Lines = &[
     ("s", "SELECT COUNT(*) FROM t WHERE x = 5", "rows 1\n  1"),
     ("s", "DROP INDEX t.l", "dropped commit 7"),
     ("s", "SELECT COUNT(*) FROM t WHERE x = 5", "rows 1\n  1"),
-    ("s", "EXPLAIN SELECT COUNT(*) FROM t WHERE x = 5", "plan 1\n  x = 5 via HG h"),
+    (
+        "s",
+        "EXPLAIN SELECT COUNT(*) FROM t WHERE x = 5",
+        "plan 1\n  x = 5 via HG h",
+    ),
 ];
 
 #[test]
@@ -53,7 +65,11 @@ fn a_removed_row_is_found_by_no_index(rt: HostRuntime) -> Result<(), Fail> {
 }
 
 const COMPARED: Lines = &[
-    ("s", "CREATE TABLE t (a INT NULL, b INT NULL)", "created commit 1"),
+    (
+        "s",
+        "CREATE TABLE t (a INT NULL, b INT NULL)",
+        "created commit 1",
+    ),
     ("s", "CREATE CMP INDEX k ON t (a, b)", "created commit 2"),
     (
         "s",
@@ -63,8 +79,16 @@ const COMPARED: Lines = &[
     ("s", "SELECT a, b FROM t WHERE a < b", "rows 1\n  1,2"),
     ("s", "SELECT a, b FROM t WHERE a = b", "rows 1\n  2,2"),
     ("s", "SELECT a, b FROM t WHERE a > b", "rows 1\n  3,2"),
-    ("s", "SELECT a, b FROM t WHERE a <> b", "rows 2\n  1,2\n  3,2"),
-    ("s", "EXPLAIN SELECT a FROM t WHERE b > a", "plan 1\n  b > a via CMP k"),
+    (
+        "s",
+        "SELECT a, b FROM t WHERE a <> b",
+        "rows 2\n  1,2\n  3,2",
+    ),
+    (
+        "s",
+        "EXPLAIN SELECT a FROM t WHERE b > a",
+        "plan 1\n  b > a via CMP k",
+    ),
 ];
 
 #[test]
@@ -73,7 +97,11 @@ fn two_columns_are_compared_row_by_row(rt: HostRuntime) -> Result<(), Fail> {
 }
 
 const GROUPED: Lines = &[
-    ("s", "CREATE TABLE t (r VARCHAR(5) NULL, v INT NULL)", "created commit 1"),
+    (
+        "s",
+        "CREATE TABLE t (r VARCHAR(5) NULL, v INT NULL)",
+        "created commit 1",
+    ),
     (
         "s",
         "INSERT INTO t VALUES ('b',1), ('a',2), ('b',NULL), (NULL,4), ('a',-2)",
@@ -92,7 +120,11 @@ const GROUPED: Lines = &[
     ("s", "SELECT v, COUNT(*) FROM t", "refused NotGrouped v"),
     ("s", "SELECT SUM(r) FROM t", "refused TypeMismatch r"),
     ("s", "SELECT z FROM t", "refused NoColumn z"),
-    ("s", "UPDATE t SET v = 9 WHERE r = 'a'", "updated 2 commit 3"),
+    (
+        "s",
+        "UPDATE t SET v = 9 WHERE r = 'a'",
+        "updated 2 commit 3",
+    ),
     ("s", "SELECT v FROM t", "rows 5\n  1\n  NULL\n  4\n  9\n  9"),
 ];
 

@@ -40,7 +40,11 @@ const REPORTED: Lines = &[
     ("-", "TAKE 1", "horizon 2 freed 0"),
     ("-", "TAKE 2", "horizon 4 freed 0"),
     ("-", "TAKE 1", "horizon 4 freed 0"),
-    ("-", "SPACE", "space free 60 reserved 0 private 0 reached 0 waiting 0"),
+    (
+        "-",
+        "SPACE",
+        "space free 60 reserved 0 private 0 reached 0 waiting 0",
+    ),
     ("-", "APPLY r1", "refused AtEnd 4"),
     ("b", "DELETE FROM t", "refused ReadOnly r1"),
     (
@@ -66,7 +70,11 @@ const REPORTED_LATE: Lines = &[
     ("-", "TAKE 2", "horizon 2 freed 0"),
     ("-", "TAKE 1", "horizon 2 freed 0"),
     ("-", "APPLY r1", "refused AtEnd 2"),
-    ("-", "SPACE", "space free 60 reserved 0 private 0 reached 0 waiting 0"),
+    (
+        "-",
+        "SPACE",
+        "space free 60 reserved 0 private 0 reached 0 waiting 0",
+    ),
     (
         "-",
         "VERSIONS",
@@ -106,7 +114,11 @@ const REPORTED_AGAIN: Lines = &[
     ("-", "LOSE 1", "lost 1"),
     ("-", "TAKE 1", "refused NoReport 1"),
     ("-", "LOSE 1", "refused NoReport 1"),
-    ("-", "SPACE", "space free 60 reserved 0 private 0 reached 0 waiting 0"),
+    (
+        "-",
+        "SPACE",
+        "space free 60 reserved 0 private 0 reached 0 waiting 0",
+    ),
     ("-", "REPORT r1", "sent 2 floor 2"),
     ("-", "TAKE 2", "horizon 2 freed 0"),
     ("-", "REPORT c", "horizon 2 freed 0"),
@@ -120,11 +132,19 @@ fn a_report_behind_a_lost_one_has_the_next_number(rt: HostRuntime) -> Result<(),
 }
 
 const REPORTED_ALONE: Lines = &[
-    ("s", "CREATE TABLE t (x VARCHAR(255) NULL)", "created commit 1"),
+    (
+        "s",
+        "CREATE TABLE t (x VARCHAR(255) NULL)",
+        "created commit 1",
+    ),
     ("s", "INSERT INTO t VALUES ('a')", "inserted 1 commit 2"),
     ("-", "REPORT c", "horizon 2 freed 0"),
     ("s", "BEGIN TRANSACTION", "begun 2"),
-    ("-", "SPACE", "space free 60 reserved 0 private 0 reached 0 waiting 0"),
+    (
+        "-",
+        "SPACE",
+        "space free 60 reserved 0 private 0 reached 0 waiting 0",
+    ),
     ("s", "DELETE FROM t", "deleted 1"),
     ("s", "COMMIT", "committed 3"),
 ];

@@ -84,7 +84,11 @@ const SAVED_AGAIN: Lines = &[
     ("s", "RELEASE SAVEPOINT p", "released p"),
     ("s", "ROLLBACK TO SAVEPOINT p", "refused NoSavepoint p"),
     ("s", "SELECT x FROM t", "rows 2\n  1\n  4"),
-    ("s", "CREATE TABLE u (y INT NULL)", "refused DdlInTransaction"),
+    (
+        "s",
+        "CREATE TABLE u (y INT NULL)",
+        "refused DdlInTransaction",
+    ),
     ("s", "BEGIN TRANSACTION", "refused InTransaction"),
     ("s", "COMMIT", "committed 2"),
     ("s", "COMMIT", "refused NoTransaction"),
