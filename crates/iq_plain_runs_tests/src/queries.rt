@@ -132,3 +132,59 @@ const GROUPED: Lines = &[
 fn groups_are_ordered_by_their_keys_and_rows_as_asked(rt: HostRuntime) -> Result<(), Fail> {
     says(&rt, &ALONE, GROUPED)
 }
+
+const PLANES: Lines = &[
+    ("s", "CREATE TABLE t (x INT NOT NULL)", "created commit 1"),
+    ("s", "CREATE HNG INDEX h ON t (x)", "created commit 2"),
+    (
+        "s",
+        "INSERT INTO t VALUES (-2147483648), (-1), (0), (2147483647)",
+        "inserted 4 commit 3",
+    ),
+    (
+        "s",
+        "SELECT x FROM t WHERE x BETWEEN -1 AND 2147483647",
+        "rows 3\n  -1\n  0\n  2147483647",
+    ),
+    (
+        "s",
+        "SELECT x FROM t WHERE x < 0",
+        "rows 2\n  -2147483648\n  -1",
+    ),
+    ("s", "SELECT SUM(x) FROM t", "rows 1\n  -2"),
+    (
+        "s",
+        "EXPLAIN SELECT x FROM t WHERE x < 0",
+        "plan 1\n  x < 0 via HNG h",
+    ),
+    (
+        "s",
+        "INSERT INTO t VALUES (2147483648)",
+        "refused BadRow 1 1 Range",
+    ),
+];
+
+#[test]
+fn numbers_reach_from_the_least_to_the_greatest(rt: HostRuntime) -> Result<(), Fail> {
+    says(&rt, &ALONE, PLANES)
+}
+
+const COLUMNS: Lines = &[
+    (
+        "s",
+        "CREATE TABLE t (x INT NULL, y INT NULL)",
+        "created commit 1",
+    ),
+    (
+        "s",
+        "INSERT INTO t VALUES (1, 10), (2, NULL)",
+        "inserted 2 commit 2",
+    ),
+    ("s", "SELECT x, y FROM t", "rows 2\n  1,10\n  2,NULL"),
+];
+
+#[test]
+fn a_first_run_has_an_entry_for_each_step_of_its_lines(rt: HostRuntime) -> Result<(), Fail> {
+    says(&rt, &ALONE, COLUMNS)?;
+    has_entries(&rt, &ALONE, COLUMNS, 11)
+}
