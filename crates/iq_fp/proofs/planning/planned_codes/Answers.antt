@@ -23,4 +23,5 @@ returns-clause-codes g c =
       same = λ keeps. absurd (other keeps);
       last = λ keeps. absurd (other keeps);
       all = λ wider. rw c.deref.ensures.value at c.in_ok-codes.ensures.codes;
+      ends = rw c.deref.ensures.value at c.in_ok-codes.ensures.ends;
     }
