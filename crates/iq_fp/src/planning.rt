@@ -182,25 +182,28 @@ fn planned_codes<S: PageSource>(
             last_codes,
         });
     }
-    let codes = all_codes(alloc, source, old, &more)?;
+    let codes = all_codes(alloc, source, old, more)?;
     Ok(PlannedCodes { codes, last_codes })
 }
 
-/// Reads the codes of a column, and puts more behind them.
+/// Reads the codes of a column, and puts more behind them. Of a column without rows there are none, and nothing is copied.
 fn all_codes<S: PageSource>(
     alloc: Global,
     source: &mut S,
     fp: &Fp,
-    more: &[u32],
+    more: Vec<u32>,
 ) -> Result<Vec<u32>, PageFault>
-    ensures long { IfOk result (λ codes. length codes.items ≡ fp.now.slots + length more.now) }
-    ensures below { (bound : ℕ) → fp.now.distinct ≤ bound → AreBelow more.now bound → IfOk result (λ codes. AreBelow codes.items bound) }
-    ensures codes { IfOk result (λ codes. GoOn fp.now (S.told source.old) more.now codes.items) }
-    ensures ends { IfOk result (λ codes. EndsIn more.now codes.items) }
+    ensures long { IfOk result (λ codes. length codes.items ≡ fp.now.slots + length more.items) }
+    ensures below { (bound : ℕ) → fp.now.distinct ≤ bound → AreBelow more.items bound → IfOk result (λ codes. AreBelow codes.items bound) }
+    ensures codes { IfOk result (λ codes. GoOn fp.now (S.told source.old) more.items codes.items) }
+    ensures ends { IfOk result (λ codes. EndsIn more.items codes.items) }
     ensures reads { OnlyReads (pages_for (code_width fp.now.distinct) fp.now.slots) (view S.PageSource source.old) (view S.PageSource source.new) }
     ensures cause { IfErr result (HasReadCause fp.now (view S.PageSource source.old) (view S.PageSource source.new)) }
 {
+    if fp.slots == 0 {
+        return Ok(more);
+    }
     let mut codes = row_codes(alloc, source, fp)?;
-    codes.extend_from_slice(more)?;
+    codes.extend_from_slice(&more)?;
     Ok(codes)
 }
