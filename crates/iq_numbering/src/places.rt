@@ -50,8 +50,8 @@ fn number_by<'a, K: Key<'a> + Drop>(
     ensures few { IfOk result (λ r. r.new ≤ length cells.now.values) }
     ensures ok { IfOk result (λ r. HasNumbered known.now.values cells.now.values r.new r.codes.items) }
 {
-    let mut keys = keys_of::<K>(alloc, known, cells.len())?;
     let mut codes = Vec::with_capacity(alloc, cells.len())?;
+    let mut keys = keys_of::<K>(alloc, known, cells.len())?;
     for i in 0..cells.len() {
         codes.push(code_of(&mut keys, cells, i)?)?;
     }

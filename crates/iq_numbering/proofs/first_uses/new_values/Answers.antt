@@ -1,7 +1,7 @@
-use Rattle.std.proofs.Common.{◌≡◌, ◌≢◌, ◌<◌, ◌+◌, ◌++◌, ◌∷◌, [], length, slice_index, refl, sym, ap, ◌∙◌, arith}
+use Rattle.std.proofs.Common.{◌≡◌, ◌≢◌, ◌<◌, ◌+◌, ◌++◌, ◌∷◌, [], length, slice_index, ap, ◌∙◌, arith}
 use Rattle.std.proofs.lemmas.List.{length-append}
 use Rattle.iq_cells.specs.Packed.{Column, value_at}
-use Rattle.iq_numbering.proofs.Numbering.{found_next, found_same, found_all, found_none}
+use Rattle.iq_numbering.proofs.Numbering.{found_next, found_same, found_all}
 use Rattle.iq_numbering.proofs.first_uses.new_values.Goals as goal
 use Rattle.iq_numbering.proofs.first_uses.new_values.Goals.{then-codes-i+in_ok-push_from, else-codes-i}
 

@@ -1,4 +1,4 @@
-use Rattle.std.proofs.Common.{◌<◌, length, map, ap, ◌∙◌, arith}
+use Rattle.std.proofs.Common.{◌<◌, length, arith}
 use Rattle.std.proofs.lemmas.List.{length-map}
 use Rattle.iq_numbering.proofs.Numbering.{numbered_to_none, numbered_to_next, numbered_all, keys_least, keys_most}
 use Rattle.iq_numbering.proofs.places.number_by.Goals as goal
