@@ -29,8 +29,8 @@ pub record ArePlanned (old new : Fp) (told : ℕ → Option Pages) (more codes p
   pub all : code_width new.distinct ≢ code_width old.distinct → GoOn old told more codes
   pub ends : EndsIn more codes
 
--- the values that weren't there before, numbered behind the known ones, whatever values the column stands for, and with these so many;
--- and a page that begins as the last one of the known ones
+-- the values that weren't there before, numbered behind the known ones, whatever values the column stands for, so that the distinct ones
+-- become so many; and a page that begins as the last one of the known ones
 pub record AreNumbered (old : Fp) (told : ℕ → Option Pages) (cells : List Value) (distinct : ℕ) (more page : List ℕ) : Type 0 where
   pub known : List Value
   pub fresh : List Value
