@@ -1,7 +1,7 @@
 //! Numberings of a column's values.
 use iq_base::{Kind, Value};
 use iq_cells::Cells;
-use iq_numbering::number;
+use iq_numbering::{new_values, number};
 use std::alloc::Global;
 use std::test::Fail;
 
@@ -26,18 +26,22 @@ fn values_are_numbered_as_they_first_appear(rt: HostRuntime) -> Result<(), Fail>
     assert!(rt; values.kind() == Kind::Int && values.len() == 7);
     let first = number(rt.alloc(), &none, &values)?;
     assert_eq!(rt; first.codes.as_slice(), &[0, 1, 0, 2, 1, 3, 2][..]);
-    assert!(rt; first.new.len() == 4);
+    assert!(rt; first.new == 4 && first.codes.len() == 7);
+    let new = new_values(rt.alloc(), 0, first.new, &values, &first.codes)?;
+    assert!(rt; new.kind() == Kind::Int && new.len() == 4);
     for (i, value) in [Value::Int(7), Value::Null, Value::Int(-1), Value::Int(0)]
         .iter()
         .enumerate()
     {
-        assert_eq!(rt; first.new.get(i), value.again(), "{i}");
+        assert_eq!(rt; new.get(i), value.again(), "{i}");
     }
     let more = ints(rt.alloc(), &[Some(0), Some(8), None, Some(8)])?;
     assert!(rt; more.kind() == Kind::Int && more.len() == 4);
-    let second = number(rt.alloc(), &first.new, &more)?;
+    let second = number(rt.alloc(), &new, &more)?;
     assert_eq!(rt; second.codes.as_slice(), &[3, 4, 1, 4][..]);
-    assert!(rt; second.new.len() == 1);
-    assert_eq!(rt; second.new.get(0), Value::Int(8));
+    assert!(rt; second.new == 1 && second.codes.len() == 4);
+    let newer = new_values(rt.alloc(), new.len(), second.new, &more, &second.codes)?;
+    assert!(rt; newer.len() == 1);
+    assert_eq!(rt; newer.get(0), Value::Int(8));
     Ok(())
 }

@@ -1,8 +1,9 @@
 -- A column goes on with more values.
-use Rattle.std.proofs.Common.{◌≡◌, ◌≢◌, ◌<◌, ℕ, ◌+◌, ◌-◌, ◌*◌, ◌/◌, ◌%◌, inl, inr, List, [], ◌++◌, map, Option, length, slice_index, zero-add, Bool, true, false, nat_eq, eq-eqb, if◌then◌else◌, sym, ap, ap₂, ◌∙◌, subst, arith}
+use Rattle.std.proofs.Common.{◌≡◌, ◌≢◌, ◌<◌, ◌≤◌, ◌^◌, ℕ, ◌+◌, ◌-◌, ◌*◌, ◌/◌, ◌%◌, inl, inr, List, [], ◌++◌, map, take, drop, Option, length, slice_index, zero-add, Bool, true, false, nat_eq, eq-eqb, if◌then◌else◌, refl, sym, ap, ap₂, ◌∙◌, subst, arith}
 use Rattle.iq_pages.specs.declared.page_faults.PageFault.{PageFault}
 use Rattle.std.proofs.lemmas.Bool.{cases_lt}
-use Rattle.std.proofs.lemmas.List.{length-append, length-map, map-append, get_or_append_left, get_or-append-add, get_or-map, ext_get_or}
+use Rattle.std.proofs.Math.Seq.{drop-append_seam}
+use Rattle.std.proofs.lemmas.List.{length-append, length-drop, take_all, length-map, map-append, get_or_append_left, get_or-append-add, get_or-map, ext_get_or}
 use Rattle.byteorder.specs.Endian.{little_bytes}
 use Rattle.iq_base.specs.declared.values.Kind.{Kind}
 use Rattle.iq_base.specs.declared.values.Value.{Value}
@@ -14,7 +15,7 @@ use Rattle.iq_pieces.specs.Faults.{HasBehindCause}
 use Rattle.std.proofs.lemmas.Bool.Decides.{nat_tests, eqb_tells}
 use Rattle.iq_cells.specs.Pieces.{piece_in}
 use Rattle.iq_cells.specs.Packed.{value_at}
-use Rattle.iq_numbering.specs.Numbers.{AreDistinct, IsAt, IsNumbered}
+use Rattle.iq_numbering.specs.Numbers.{AreDistinct, IsAt, IsNumbered, HasNumbered, AreNew}
 use Rattle.iq_pieces.specs.Counts.{per_page, pages_changed}
 use Rattle.iq_pieces.specs.Codes.{AreBelow}
 use Rattle.iq_pieces.specs.Objects.{piece_at, HoldsObject, BeginsAs, LoadsLast, AppendsBehind}
@@ -23,7 +24,7 @@ use Rattle.iq_fp.specs.Forms.{code_width}
 use Rattle.iq_fp.specs.Stands.{Stands, HaveCells}
 use Rattle.iq_fp.specs.declared.plan.Plan.{Plan}
 use Rattle.iq_fp.specs.Calls.{HasReadCause, AreKnown, StandsForMore, StandsForNone, AreCodesOf, AreValuesOf, pages_written, codes_written}
-use Rattle.iq_fp.specs.Plans.{KeepsForm, AreNumbered, ArePlanned, IsPlanFor, WritesCodes}
+use Rattle.iq_fp.specs.Plans.{KeepsForm, EndsIn, AreNumbered, ArePlanned, IsPlanFor, WritesCodes}
 
 -- what stands among values stands there too where more come
 at_more : (vs more : List Value) (place : ℕ) (v : Value) → IsAt vs place v → IsAt (vs ++ more) place v
@@ -79,7 +80,7 @@ numbered_on values cells known new codes more p q = record {
 }
 
 -- codes of rows and of more are below the greater number of distinct values
-pub more_below : (known cells new : List Value) (more : List ℕ) → IsNumbered known cells new more → AreBelow more (length known + length new)
+more_below : (known cells new : List Value) (more : List ℕ) → IsNumbered known cells new more → AreBelow more (length known + length new)
 more_below known cells new more q = λ k h. let a = q.each k (omega (arith, q.long)) in omega (arith, a.within, length-append known new)
 
 -- values with cells, and more of them
@@ -127,28 +128,100 @@ codes_hold plan before after more planned writes values stands = elim (eqb_tells
   | inr other ↦ codes_anew plan before after more other.1 planned writes values stands
 ]
 
+-- the new ones of values with cells have cells
+cells_new : (kind : Kind) (known cells new : List Value) (more : List ℕ) → HaveCells kind cells → IsNumbered known cells new more → HaveCells kind new
+cells_new kind known cells new more h n = λ j l.
+    let first = n.first j l in
+    let within : first.at < length cells = omega (arith, first.within, n.long) in
+    let at = n.each first.at within in
+    let same : value_at first.at cells ≡ value_at j new =
+    sym at.there ∙ ap (λ (p : ℕ). value_at p (known ++ new)) first.here ∙ get_or-append-add known new j Null in
+    subst (λ (v : Value). IsCell kind v (cell kind v)) same (h first.at within)
+
+-- values that were numbered behind the known ones, which were read
+pub are_numbered : (old : Fp) (told : ℕ → Option Pages) (known cells : List Value) (kind kind' : Kind) (count : ℕ) (more page : List ℕ) → kind ≡ old.kind → kind' ≡ old.kind → length known ≡ old.distinct → AreKnown old told known → HaveCells kind' cells → HasNumbered known cells count more → BeginsAs (width kind) (length known) page (map (cell kind) known) → AreNumbered old told cells (old.distinct + count) more page
+are_numbered old told known cells kind kind' count more page same same' long are have n begins = record {
+  known = known;
+  fresh = n.new;
+  many = ap (λ (m : ℕ). old.distinct + m) (sym n.many);
+  long = long;
+  known_are = are;
+  of_kind = subst (λ (k : Kind). HaveCells k n.new) same' (cells_new kind' known cells n.new more have n.numbered);
+  numbered = n.numbered;
+  last = rw (same, long) at begins;
+}
+
+-- their codes are below the number of all of them
+pub numbered_below : (distinct count : ℕ) (known cells : List Value) (more : List ℕ) → length known ≡ distinct → HasNumbered known cells count more → AreBelow more (distinct + count)
+numbered_below distinct count known cells more long n = rw (← long, ← n.many) (more_below known cells n.new more n.numbered)
+
+-- what is put behind a list stands last
+pub ends_in : (codes more : List ℕ) → EndsIn more (codes ++ more)
+ends_in codes more =
+    let count : length (codes ++ more) - length more ≡ length codes = omega (arith, length-append codes more) in
+    rw (count, drop-append_seam) refl
+
+-- the codes of the values that a plan was made for stand last among its codes
+pub plan_ends : (plan : Plan) (told : ℕ → Option Pages) (cells : List Value) (is : IsPlanFor told cells plan) → drop (length plan.codes.items - length cells) plan.codes.items ≡ is.more
+plan_ends plan told cells is = ap (λ (n : ℕ). drop (length plan.codes.items - n) plan.codes.items) (sym is.numbered.numbered.long) ∙ is.codes.ends
+
+-- so there are no fewer codes than values
+pub plan_many : (plan : Plan) (told : ℕ → Option Pages) (cells : List Value) → IsPlanFor told cells plan → length cells ≤ length plan.codes.items
+plan_many plan told cells is =
+    let left = length-drop (length plan.codes.items - length cells) plan.codes.items in
+    let ends = ap (λ (codes : List ℕ). length codes) (plan_ends plan told cells is) in
+    omega (arith, left, ends, is.numbered.numbered.long)
+
+-- and no more values than a column may have
+pub plan_few : (plan : Plan) (told : ℕ → Option Pages) (cells : List Value) → IsPlanFor told cells plan → length cells ≤ 256 ^ 3
+plan_few plan told cells is = omega (arith, is.slots, plan.fits.rows)
+
+-- the new values that these codes tell are those of the plan
+pub fresh_is : (plan : Plan) (told : ℕ → Option Pages) (cells found : List Value) (is : IsPlanFor told cells plan) → AreNew plan.column.distinct cells (drop (length plan.codes.items - length cells) plan.codes.items) found → found ≡ is.numbered.fresh
+fresh_is plan told cells found is new = new is.numbered.known is.numbered.fresh is.numbered.long (rw (plan_ends plan told cells is) is.numbered.numbered)
+
+-- so they are as many as the column grows by
+pub fresh_many : (plan : Plan) (told : ℕ → Option Pages) (cells found : List Value) → IsPlanFor told cells plan → AreNew plan.column.distinct cells (drop (length plan.codes.items - length cells) plan.codes.items) found → plan.grown.distinct ≡ plan.column.distinct + length found
+fresh_many plan told cells found is new = is.numbered.many ∙ ap (λ (vs : List Value). plan.column.distinct + length vs) (sym (fresh_is plan told cells found is new))
+
+-- how many of values, and so of both
+pages_both : (old new : Fp) (kind : Kind) (f : ℕ) → kind ≡ old.kind → new.distinct ≡ old.distinct + f → pages_written old new ≡ pages_changed (width kind) old.distinct f + codes_written old new
+pages_both old new kind f ek ed =
+    let fresh : new.distinct - old.distinct ≡ f = omega arith in
+    ap₂ (λ (k : Kind) (n : ℕ). pages_changed (width k) old.distinct n + codes_written old new) (sym ek) fresh
+
+-- so the pages of values that are written are those of the new ones
+pub fresh_pages : (plan : Plan) (told : ℕ → Option Pages) (cells found : List Value) (kind : Kind) → IsPlanFor told cells plan → AreNew plan.column.distinct cells (drop (length plan.codes.items - length cells) plan.codes.items) found → kind ≡ plan.column.kind → pages_written plan.column plan.grown ≡ pages_changed (width kind) plan.column.distinct (length (map (cell kind) found)) + codes_written plan.column plan.grown
+fresh_pages plan told cells found kind is new same =
+    pages_both plan.column plan.grown kind (length (map (cell kind) found)) same
+    (fresh_many plan told cells found is new ∙ ap (λ (n : ℕ). plan.column.distinct + n) (sym (length-map found (cell kind))))
+
+-- a list that is cut behind its last element stays
+pub new_of_rest : (known : ℕ) (values found : List Value) (codes : List ℕ) (first n : ℕ) → length codes ≤ n + first → AreNew known values (take n (drop first codes)) found → AreNew known values (drop first codes) found
+new_of_rest known values found codes first n h new = subst (λ (xs : List ℕ). AreNew known values xs found) (take_all n (drop first codes) (omega (arith, length-drop first codes))) new
+
 -- a plan that was written makes its column stand for more values
-pub plan_stands : (plan : Plan) (before after : ℕ → Option Pages) (cells : List Value) → IsPlanFor before cells plan → AppendsBehind (width plan.fresh.kind) plan.column.distinct plan.last_values (map (cell plan.fresh.kind) plan.fresh.values) (before plan.column.values) (after plan.column.values) → WritesCodes plan (before plan.column.codes) (after plan.column.codes) → StandsForMore plan.column plan.grown cells before after
-plan_stands plan before after cells is wrote writes = λ values stands.
+pub plan_stands : (plan : Plan) (before after : ℕ → Option Pages) (cells fresh : List Value) (kind : Kind) (is : IsPlanFor before cells plan) → kind ≡ plan.column.kind → fresh ≡ is.numbered.fresh → AppendsBehind (width kind) plan.column.distinct plan.last_values (map (cell kind) fresh) (before plan.column.values) (after plan.column.values) → WritesCodes plan (before plan.column.codes) (after plan.column.codes) → StandsForMore plan.column plan.grown cells before after
+plan_stands plan before after cells fresh kind is kind_is fresh_are wrote writes = λ values stands.
     let old = plan.column in
-    let fresh = plan.fresh.values in
     let fits = plan.fits in
     let numbered = is.numbered in
+    let new = numbered.fresh in
     let known : numbered.known ≡ stands.known = numbered.known_are values stands in
-    let behind : AppendsBehind (width old.kind) old.distinct plan.last_values (map (cell old.kind) fresh) (before old.values) (after old.values) = rw fits.kind at wrote in
+    let behind : AppendsBehind (width old.kind) old.distinct plan.last_values (map (cell old.kind) new) (before old.values) (after old.values) = rw (kind_is, fresh_are) at wrote in
     let begins : BeginsAs (width old.kind) old.distinct plan.last_values (map (cell old.kind) stands.known) = rw known at numbered.last in
-    let held : HoldsObject (after old.values) (width old.kind) (map (cell old.kind) stands.known ++ map (cell old.kind) fresh) =
+    let held : HoldsObject (after old.values) (width old.kind) (map (cell old.kind) stands.known ++ map (cell old.kind) new) =
     behind (map (cell old.kind) stands.known) (length-map stands.known (cell old.kind) ∙ stands.distinct) begins stands.values_held in
-    let joined : HoldsObject (after old.values) (width old.kind) (map (cell old.kind) (stands.known ++ fresh)) = rw (map-append (cell old.kind) stands.known fresh) held in
-    let numbers : IsNumbered stands.known cells fresh is.more = rw known at numbered.numbered in
+    let joined : HoldsObject (after old.values) (width old.kind) (map (cell old.kind) (stands.known ++ new)) = rw (map-append (cell old.kind) stands.known new) held in
+    let numbers : IsNumbered stands.known cells new is.more = rw known at numbered.numbered in
     record {
-      known = stands.known ++ fresh;
+      known = stands.known ++ new;
       codes = stands.codes ++ is.more;
       slots = length-append values cells ∙ (omega (arith, stands.slots, is.slots));
-      distinct = length-append stands.known fresh ∙ (omega (arith, stands.distinct, fits.distinct));
+      distinct = length-append stands.known new ∙ (omega (arith, stands.distinct, numbered.many));
       few = fits.few;
-      numbered = numbered_on values cells stands.known fresh stands.codes is.more stands.numbered numbers;
-      of_kind = rw fits.objects.kind (cells_on old.kind stands.known fresh stands.of_kind numbered.of_kind);
+      numbered = numbered_on values cells stands.known new stands.codes is.more stands.numbered numbers;
+      of_kind = rw fits.objects.kind (cells_on old.kind stands.known new stands.of_kind numbered.of_kind);
       codes_held = rw fits.objects.codes (codes_hold plan before after is.more is.codes writes values stands);
       values_held = rw (fits.objects.values, fits.objects.kind) joined;
     }
@@ -200,9 +273,11 @@ all_are fp told told' known got codes ec ev known_are codes_are is = λ values s
 pub known_still : (fp : Fp) (told told' : ℕ → Option Pages) (known : List Value) → told fp.codes ≡ told' fp.codes → told fp.values ≡ told' fp.values → AreKnown fp told known → AreKnown fp told' known
 known_still fp told told' known ec ev are = λ values stands. are values (stands_there fp told' told values ec ev stands)
 
-pub numbered_there : (old : Fp) (told told' : ℕ → Option Pages) (cells fresh : List Value) (more last : List ℕ) → told' old.codes ≡ told old.codes → told' old.values ≡ told old.values → AreNumbered old told cells fresh more last → AreNumbered old told' cells fresh more last
-numbered_there old told told' cells fresh more last ec ev is = record {
+pub numbered_there : (old : Fp) (told told' : ℕ → Option Pages) (cells : List Value) (distinct : ℕ) (more last : List ℕ) → told' old.codes ≡ told old.codes → told' old.values ≡ told old.values → AreNumbered old told cells distinct more last → AreNumbered old told' cells distinct more last
+numbered_there old told told' cells distinct more last ec ev is = record {
   known = is.known;
+  fresh = is.fresh;
+  many = is.many;
   long = is.long;
   known_are = known_still old told told' is.known (sym ec) (sym ev) is.known_are;
   of_kind = is.of_kind;
@@ -215,6 +290,7 @@ planned_there old new told told' more codes last ec ev is = record {
   same = is.same;
   last = λ keeps. subst (λ (o : Option Pages). LoadsLast (code_width old.distinct) old.slots o last) (sym ec) (is.last keeps);
   all = λ other values stands. is.all other values (stands_there old told' told values (sym ec) (sym ev) stands);
+  ends = is.ends;
 }
 
 -- and what the column stands for after more were put behind, it stands for behind what it stood for before
@@ -226,7 +302,7 @@ pub plan_there : (plan : Plan) (told told' : ℕ → Option Pages) (cells : List
 plan_there plan told told' cells ec ev is = record {
   more = is.more;
   slots = is.slots;
-  numbered = numbered_there plan.column told told' cells plan.fresh.values is.more plan.last_values ec ev is.numbered;
+  numbered = numbered_there plan.column told told' cells plan.grown.distinct is.more plan.last_values ec ev is.numbered;
   codes = planned_there plan.column plan.grown told told' is.more plan.codes.items plan.last_codes ec ev is.codes;
 }
 
@@ -245,9 +321,3 @@ codes_wider old new w s es other ew =
     let test : nat_eq (code_width old.distinct) (code_width new.distinct) ≡ false = grind (arith, nat_tests) in
     ap (λ (t : Bool). if t then pages_changed (code_width old.distinct) old.slots (new.slots - old.slots) else pages_changed (code_width new.distinct) 0 new.slots) test
     ∙ ap₂ (λ (x : ℕ) (y : ℕ). pages_changed x 0 y) (sym ew) es
-
--- how many of values, and so of both
-pub pages_both : (old new : Fp) (kind : Kind) (f : ℕ) → kind ≡ old.kind → new.distinct ≡ old.distinct + f → pages_written old new ≡ pages_changed (width kind) old.distinct f + codes_written old new
-pages_both old new kind f ek ed =
-    let fresh : new.distinct - old.distinct ≡ f = omega arith in
-    ap₂ (λ (k : Kind) (n : ℕ). pages_changed (width k) old.distinct n + codes_written old new) (sym ek) fresh

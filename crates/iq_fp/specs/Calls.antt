@@ -8,7 +8,7 @@ use Rattle.iq_pages.specs.declared.page_faults.PageFault.{PageFault}
 use Rattle.iq_pages.specs.declared.page_faults.PageFault.TheVariants.{Failed, BadPage, NoMemory}
 use Rattle.iq_pages.specs.Pages.{Pages, Seen}
 use Rattle.iq_base.specs.declared.sizes.TheConstants.{MOST_PAGES}
-use Rattle.iq_cells.specs.Packed.{Column, value_at}
+use Rattle.iq_cells.specs.Packed.{value_at}
 use Rattle.iq_pieces.specs.Counts.{per_page, pages_for, pages_changed}
 use Rattle.iq_pieces.specs.Faults.{CellsOf, CodesBelow, HasSoundPage}
 use Rattle.iq_numbering.specs.Numbers.{AreDistinct}
@@ -134,13 +134,12 @@ pub record IsLonger (old new : Fp) (more : ℕ) : Type 0 where
   pub distinct : old.distinct ≤ new.distinct
   pub most : new.distinct ≤ old.distinct + more
 
--- a column with more distinct values, these behind its own, and more rows, whose codes go behind its own where they stay in their form;
--- else they are the codes of all rows
-pub record IsGrown (old new : Fp) (codes : List ℕ) (fresh : Column) : Type 0 where
+-- a column with more distinct values, and more rows, whose codes go behind its own where they stay in their form; else they are the
+-- codes of all rows
+pub record IsGrown (old new : Fp) (codes : List ℕ) : Type 0 where
   pub objects : SameObjects old new
   pub apart : old.codes ≢ old.values
-  pub kind : fresh.kind ≡ old.kind
-  pub distinct : new.distinct ≡ old.distinct + length fresh.values
+  pub distinct : old.distinct ≤ new.distinct
   pub behind : code_width new.distinct ≡ code_width old.distinct → new.slots ≡ old.slots + length codes
   pub anew : code_width new.distinct ≢ code_width old.distinct → new.slots ≡ length codes
   pub below : AreBelow codes new.distinct

@@ -1,5 +1,5 @@
 -- What an append of a column is planned to write.
-use Rattle.std.specs.Prelude.{◌≡◌, ◌≢◌, ◌≤◌, ℕ, ◌+◌, ◌/◌, List, Option, length, map}
+use Rattle.std.specs.Prelude.{◌≡◌, ◌≢◌, ◌≤◌, ℕ, ◌+◌, ◌-◌, ◌/◌, List, Option, length, drop, map}
 use Rattle.byteorder.specs.Endian.{little_bytes}
 use Rattle.iq_base.specs.declared.values.Value.{Value}
 use Rattle.iq_base.specs.Cells.{width, cell}
@@ -17,17 +17,24 @@ use Rattle.iq_fp.specs.Calls.{AreKnown, GoOn}
 abbrev pub KeepsForm : Fp → Fp → Type 0
 KeepsForm old new = code_width new.distinct ≡ code_width old.distinct
 
+-- a list ends in another
+abbrev pub EndsIn : List ℕ → List ℕ → Type 0
+EndsIn end all = drop (length all - length end) all ≡ end
+
 -- the codes of a column that are to be written: whatever values it stands for, those of more rows, behind a page that begins as its last
--- one; or, where the form changes, those of all rows
+-- one; or, where the form changes, those of all rows; either way those of more rows stand last
 pub record ArePlanned (old new : Fp) (told : ℕ → Option Pages) (more codes page : List ℕ) : Type 0 where
   pub same : KeepsForm old new → codes ≡ more
   pub last : KeepsForm old new → LoadsLast (code_width old.distinct) old.slots (told old.codes) page
   pub all : code_width new.distinct ≢ code_width old.distinct → GoOn old told more codes
+  pub ends : EndsIn more codes
 
--- the values that weren't there before, numbered behind the known ones, whatever values the column stands for; and a page that begins as
--- the last one of these
-pub record AreNumbered (old : Fp) (told : ℕ → Option Pages) (cells fresh : List Value) (more page : List ℕ) : Type 0 where
+-- the values that weren't there before, numbered behind the known ones, whatever values the column stands for, so that the distinct ones
+-- become so many; and a page that begins as the last one of the known ones
+pub record AreNumbered (old : Fp) (told : ℕ → Option Pages) (cells : List Value) (distinct : ℕ) (more page : List ℕ) : Type 0 where
   pub known : List Value
+  pub fresh : List Value
+  pub many : distinct ≡ old.distinct + length fresh
   pub long : length known ≡ old.distinct
   pub known_are : AreKnown old told known
   pub of_kind : HaveCells old.kind fresh
@@ -38,7 +45,7 @@ pub record AreNumbered (old : Fp) (told : ℕ → Option Pages) (cells fresh : L
 pub record IsPlanFor (told : ℕ → Option Pages) (cells : List Value) (plan : Plan) : Type 0 where
   pub more : List ℕ
   pub slots : plan.grown.slots ≡ plan.column.slots + length cells
-  pub numbered : AreNumbered plan.column told cells plan.fresh.values more plan.last_values
+  pub numbered : AreNumbered plan.column told cells plan.grown.distinct more plan.last_values
   pub codes : ArePlanned plan.column plan.grown told more plan.codes.items plan.last_codes
 
 -- the objects have the pages behind which the plan writes

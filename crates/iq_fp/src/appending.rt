@@ -38,7 +38,7 @@ impl Fp {
     {
         let _width = iq_base::width(self.kind);
         let plan = self.plan(alloc, sink, cells)?;
-        plan.carry_out(sink)?;
+        plan.carry_out(alloc, sink, cells)?;
         *self = plan.grown;
         Ok(())
     }

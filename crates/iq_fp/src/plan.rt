@@ -3,17 +3,16 @@ ghost use Rattle.iq_fp.specs.Calls.{IsGrown};
 
 use crate::fp::Fp;
 use iq_base::Page;
-use iq_cells::Cells;
 
-/// What an append of a column writes: the column as it was and as it is to be, the distinct values that weren't there before, and the
-/// codes of the new rows, or of all rows where their form changes. It takes 4 bytes a code and a cell for each new distinct value.
+/// What an append of a column writes: the column as it was and as it is to be, and the codes of the new rows, or of all rows where
+/// their form changes. It takes 4 bytes a code. The distinct values that weren't there before are told from the codes and the values
+/// that it was made for, when it is carried out.
 #[derive(Drop)]
 pub struct Plan {
     pub column: Fp,
     pub grown: Fp,
     pub(crate) codes: Vec<u32>,
-    pub(crate) fresh: Cells,
     pub(crate) last_codes: Page,
     pub(crate) last_values: Page,
-    ghost fits: { IsGrown column grown codes.items fresh },
+    ghost fits: { IsGrown column grown codes.items },
 }

@@ -9,7 +9,7 @@ ghost use Rattle.iq_pieces.specs.Objects.{BeginsAs};
 ghost use Rattle.iq_fp.specs.Forms.{code_width};
 ghost use Rattle.iq_fp.specs.Stands.{HaveCells, HasRoom};
 ghost use Rattle.iq_fp.specs.Calls.{AreKnown, IsLonger, GoOn, HasReadCause, HasPlanCause, pages_read};
-ghost use Rattle.iq_fp.specs.Plans.{KeepsForm, AreNumbered, ArePlanned, IsPlanFor, IsReached};
+ghost use Rattle.iq_fp.specs.Plans.{KeepsForm, AreNumbered, ArePlanned, EndsIn, IsPlanFor, IsReached};
 
 use crate::distinct::first_repeat;
 use crate::fp::{Fp, code_bytes};
@@ -50,7 +50,7 @@ impl Fp {
         } = values;
         let grown = Fp {
             slots: self.slots + cells.len() as u32,
-            distinct: self.distinct + fresh.len() as u32,
+            distinct: self.distinct + fresh as u32,
             ..*self
         };
         let planned = planned_codes(alloc, source, self, &grown, more)?;
@@ -59,18 +59,17 @@ impl Fp {
             column: *self,
             grown,
             codes,
-            fresh,
             last_codes,
             last_values,
         })
     }
 }
 
-/// The distinct values that weren't there before, the codes of the new rows, and a page that begins as the last one of the distinct
+/// How many distinct values weren't there before, the codes of the new rows, and a page that begins as the last one of the distinct
 /// values that were.
 #[derive(Drop)]
 struct PlannedValues {
-    fresh: Cells,
+    fresh: usize,
     more: Vec<u32>,
     last_values: Page,
 }
@@ -84,9 +83,9 @@ fn planned_values<S: PageSource>(
 ) -> Result<PlannedValues, PageFault>
     requires kind { cells.now.kind ≡ fp.now.kind }
     requires few { fp.now.distinct + length cells.now.values < 2 ^ 32 }
-    ensures kind { IfOk result (λ values. values.fresh.kind ≡ fp.now.kind) }
-    ensures few { IfOk result (λ values. length values.fresh.values ≤ length cells.now.values) }
-    ensures numbered { IfOk result (λ values. AreNumbered fp.now (S.told source.old) cells.now.values values.fresh.values values.more.items values.last_values) }
+    ensures few { IfOk result (λ values. values.fresh ≤ length cells.now.values) }
+    ensures below { IfOk result (λ values. AreBelow values.more.items (fp.now.distinct + values.fresh)) }
+    ensures numbered { IfOk result (λ values. AreNumbered fp.now (S.told source.old) cells.now.values (fp.now.distinct + values.fresh) values.more.items values.last_values) }
     ensures reached { OnOk result (fp.now.distinct / per_page (width fp.now.kind) ≤ S.counts source.old fp.now.values) }
     ensures reads { OnlyReads (pages_for (width fp.now.kind) fp.now.distinct) (view S.PageSource source.old) (view S.PageSource source.new) }
     ensures cause { IfErr result (HasPlanCause fp.now (view S.PageSource source.old) (view S.PageSource source.new)) }
@@ -100,7 +99,7 @@ fn planned_values<S: PageSource>(
         });
     }
     let Numbered { codes, new } = number(alloc, &known, cells)?;
-    have_cells(&new);
+    have_cells(cells);
     let last_values = last_page(&known);
     Ok(PlannedValues {
         fresh: new,
@@ -183,24 +182,28 @@ fn planned_codes<S: PageSource>(
             last_codes,
         });
     }
-    let codes = all_codes(alloc, source, old, &more)?;
+    let codes = all_codes(alloc, source, old, more)?;
     Ok(PlannedCodes { codes, last_codes })
 }
 
-/// Reads the codes of a column, and puts more behind them.
+/// Reads the codes of a column, and puts more behind them. Of a column without rows there are none, and nothing is copied.
 fn all_codes<S: PageSource>(
     alloc: Global,
     source: &mut S,
     fp: &Fp,
-    more: &[u32],
+    more: Vec<u32>,
 ) -> Result<Vec<u32>, PageFault>
-    ensures long { IfOk result (λ codes. length codes.items ≡ fp.now.slots + length more.now) }
-    ensures below { (bound : ℕ) → fp.now.distinct ≤ bound → AreBelow more.now bound → IfOk result (λ codes. AreBelow codes.items bound) }
-    ensures codes { IfOk result (λ codes. GoOn fp.now (S.told source.old) more.now codes.items) }
+    ensures long { IfOk result (λ codes. length codes.items ≡ fp.now.slots + length more.items) }
+    ensures below { (bound : ℕ) → fp.now.distinct ≤ bound → AreBelow more.items bound → IfOk result (λ codes. AreBelow codes.items bound) }
+    ensures codes { IfOk result (λ codes. GoOn fp.now (S.told source.old) more.items codes.items) }
+    ensures ends { IfOk result (λ codes. EndsIn more.items codes.items) }
     ensures reads { OnlyReads (pages_for (code_width fp.now.distinct) fp.now.slots) (view S.PageSource source.old) (view S.PageSource source.new) }
     ensures cause { IfErr result (HasReadCause fp.now (view S.PageSource source.old) (view S.PageSource source.new)) }
 {
+    if fp.slots == 0 {
+        return Ok(more);
+    }
     let mut codes = row_codes(alloc, source, fp)?;
-    codes.extend_from_slice(more)?;
+    codes.extend_from_slice(&more)?;
     Ok(codes)
 }

@@ -1,5 +1,5 @@
 -- The place of a cell among the cells of values.
-use Rattle.std.proofs.Common.{◌≡◌, ◌≢◌, ◌<◌, ◌≤◌, ℕ, ◌+◌, Bool, true, false, not, List, [], ◌∷◌, ◌++◌, ◌⊎◌, map, length, slice_index_or, take, inl, inr, refl, sym, ap, ◌∙◌, nat_eq, if◌then◌else◌, true≢false, arith}
+use Rattle.std.proofs.Common.{◌≡◌, ◌≢◌, ◌<◌, ◌≤◌, ℕ, ◌+◌, Bool, true, false, not, cond, ◌||◌, List, [], ◌∷◌, ◌++◌, ◌⊎◌, map, length, slice_index_or, take, inl, inr, refl, sym, ap, ap₂, ◌∙◌, nat_eq, if◌then◌else◌, true≢false, arith}
 use Rattle.std.specs.List.{list_any, position_or_len}
 use Rattle.std.specs.Cmp.Lexicographic.{pointwise, bytes_decides}
 use Rattle.std.proofs.lemmas.Bool.{cases_lt}
@@ -98,20 +98,36 @@ keys_next kind vs i c ks ks' d l h is e =
     ]
 
 -- numbering one more value takes the keys one step on
-pub steps_to : (kind : Kind) (known new new' : List Value) (v : Value) (c : List ℕ) (ks ks' : List (List ℕ)) (place : ℕ) (added : Bool) → HasKeys kind (known ++ new) ks → IsCell kind v c → ks' ≡ insert_key equals ks c → place ≡ position_or_len (equals c) ks → added ≡ not (list_any (equals c) ks) → ((added ≡ true) × (new' ≡ new ++ v ∷ [])) ⊎ ((added ≡ false) × (new' ≡ new)) → StepsTo kind known v place new new' ks'
-steps_to kind known new new' v c ks ks' place added h is e at add (inl more) =
-    elim (place_is kind (known ++ new) v c ks h is) [
-      | inl here ↦ absurd (true≢false (sym more.0 ∙ add ∙ here.2))
-      | inr none ↦ record {
-        step = inr (record { last = at ∙ none.0; fresh = none.1; more = more.1 });
-        keys_are = rw (more.1, e, none.2, ← append_assoc known new (v ∷ [])) (keys_more kind (known ++ new) v c ks h is);
-      }
-    ]
-steps_to kind known new new' v c ks ks' place added h is e at add (inr same) =
+pub steps_to : (kind : Kind) (known new : List Value) (v : Value) (c : List ℕ) (ks ks' : List (List ℕ)) (place : ℕ) → HasKeys kind (known ++ new) ks → IsCell kind v c → ks' ≡ insert_key equals ks c → place ≡ position_or_len (equals c) ks → StepsTo kind known v place new ks'
+steps_to kind known new v c ks ks' place h is e at =
     elim (place_is kind (known ++ new) v c ks h is) [
       | inl here ↦ record {
-        step = inl (record { at = rw at here.0; same = same.1 });
-        keys_are = rw (same.1, e, here.1) h;
+        new' = new;
+        step = inl (record { at = rw at here.0; same = refl });
+        keys_are = rw (e, here.1) h;
       }
-      | inr none ↦ absurd (true≢false (sym none.3 ∙ sym add ∙ same.0))
+      | inr none ↦ record {
+        new' = new ++ v ∷ [];
+        step = inr (record { last = at ∙ none.0; fresh = none.1; more = refl });
+        keys_are = rw (e, none.2, ← append_assoc known new (v ∷ [])) (keys_more kind (known ++ new) v c ks h is);
+      }
     ]
+
+-- keys of any type, which are compared by their bytes
+module _ {K : Type 0} (eq : K → K → Bool) (bytes : K → List ℕ) (compares : (a b : K) → eq a b ≡ equals (bytes a) (bytes b)) where
+  any_bytes : (k : K) (ks : List K) → list_any (eq k) ks ≡ list_any (equals (bytes k)) (map bytes ks)
+  any_bytes k [] = refl
+  any_bytes k (x ∷ xs) = ap₂ (λ (a b : Bool). a || b) (compares k x) (any_bytes k xs)
+
+  -- one has the place that its bytes have
+  pub place_bytes : (k : K) (ks : List K) → position_or_len (eq k) ks ≡ position_or_len (equals (bytes k)) (map bytes ks)
+  place_bytes k [] = refl
+  place_bytes k (x ∷ xs) = ap₂ (λ (t : Bool) (n : ℕ). cond (not t) (1 + n) 0) (compares k x) (place_bytes k xs)
+
+  -- and putting one among them puts its bytes among theirs
+  pub insert_bytes : (k : K) (ks : List K) → map bytes (insert_key eq ks k) ≡ insert_key equals (map bytes ks) (bytes k)
+  insert_bytes k ks = rw (any_bytes k ks) (by (list_any (equals (bytes k)) (map bytes ks)))
+    where
+      by : (t : Bool) → map bytes (if t then ks else ks ++ k ∷ []) ≡ (if t then map bytes ks else map bytes ks ++ bytes k ∷ [])
+      by true = refl
+      by false = map-append bytes ks (k ∷ [])

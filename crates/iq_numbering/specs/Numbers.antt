@@ -29,6 +29,17 @@ pub record IsNumbered (known values new : List Value) (codes : List ℕ) : Type 
   pub distinct : AreDistinct (known ++ new)
   pub first : (j : ℕ) → j < length new → IsFirstUse codes (length known + j)
 
+-- the codes number the values behind the known ones, and so many values are new
+pub record HasNumbered (known values : List Value) (count : ℕ) (codes : List ℕ) : Type 0 where
+  pub new : List Value
+  pub many : length new ≡ count
+  pub numbered : IsNumbered known values new codes
+
+-- whatever values were known, so many of them, these are the new ones that the codes number
+abbrev pub AreNew : ℕ → List Value → List ℕ → List Value → Type 0
+AreNew known values codes found =
+    (before new : List Value) → length before ≡ known → IsNumbered before values new codes → found ≡ new
+
 -- the value stands among the values, and no new one comes
 pub record Finds (vs : List Value) (v : Value) (code : ℕ) (new new' : List Value) : Type 0 where
   pub at : IsAt vs code v
@@ -50,11 +61,12 @@ pub record HasKeys (kind : Kind) (vs : List Value) (keys : List (List ℕ)) : Ty
   pub of_kind : AreOf kind vs
 
 -- one more value is numbered, and the keys go with it
-pub record StepsTo (kind : Kind) (known : List Value) (v : Value) (code : ℕ) (new new' : List Value) (keys : List (List ℕ)) : Type 0 where
+pub record StepsTo (kind : Kind) (known : List Value) (v : Value) (code : ℕ) (new : List Value) (keys : List (List ℕ)) : Type 0 where
+  pub new' : List Value
   pub step : IsStep known v code new new'
   pub keys_are : HasKeys kind (known ++ new') keys
 
 -- one more value is numbered with this code, behind whatever was known, and the keys go with it
-abbrev pub NumbersNext : Kind → Value → List Value → List Value → List (List ℕ) → List (List ℕ) → ℕ → Type 0
-NumbersNext kind v new new' keys keys' code =
-    (known : List Value) → HasKeys kind (known ++ new) keys → StepsTo kind known v code new new' keys'
+abbrev pub NumbersNext : Kind → Value → List (List ℕ) → List (List ℕ) → ℕ → Type 0
+NumbersNext kind v keys keys' code =
+    (known new : List Value) → HasKeys kind (known ++ new) keys → StepsTo kind known v code new keys'

@@ -1,9 +1,10 @@
 //! The bytes of a cell, as a key of a map.
-ghost use Rattle.std.specs.Prelude.{◌≡◌, [], ◌∷◌, nat_eq};
+ghost use Rattle.std.specs.Prelude.{◌≡◌, [], ◌∷◌, nat_eq, refl, ⊤};
 ghost use Rattle.std.specs.Cmp.{partial_equiv_from_equiv};
 ghost use Rattle.std.specs.Cmp.Lexicographic.{pointwise, bytes_decides, nat_list_eq_equiv};
 ghost use Rattle.std.proofs.Common.{ap};
 
+use crate::key::{Key, OfBytes};
 use std::hash::{Hash, Hasher};
 use std::marker::Model;
 
@@ -28,6 +29,20 @@ impl<'a> CellKey<'a> {
         ensures { result ≡ bytes.now }
     {
         CellKey { bytes }
+    }
+}
+
+impl<'a> OfBytes for CellKey<'a> {
+    ghost bytes = { λ k. k };
+
+    ghost compares = { λ a b. refl };
+}
+
+impl<'a> Key<'a> for CellKey<'a> {
+    ghost takes = { λ _. ⊤ };
+
+    fn of(cell: &'a [u8]) -> CellKey<'a> {
+        CellKey::of(cell)
     }
 }
 

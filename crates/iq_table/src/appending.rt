@@ -29,7 +29,8 @@ impl Table {
     /// new values, and each page that the append needs is read, before the first page is written; each page that changes is written
     /// once. `TableFull` comes before anything is touched, and a bad page of a told object before anything is written. After any other
     /// `Err` the table's value is as before, but pages of its objects may be written. Without rows nothing is touched. Beside the
-    /// rows it takes 4 bytes a row and column, the new distinct values, and for one column at a time an index of its distinct values.
+    /// rows it takes 4 bytes a row and column, and for one column at a time an index of its distinct values or, while it is written,
+    /// its new ones.
     pub fn append_rows<S: PageSink>(
         &mut self,
         alloc: Global,
@@ -106,5 +107,5 @@ fn write_rows<S: PageSink>(
 {
     let planned = plan_columns(alloc, sink, place, slots, parts, rows)?;
     append_ones(alloc, sink, existence_of(place), slots, rows.len() as u32)?;
-    write_columns(sink, place, slots, parts, rows, planned)
+    write_columns(alloc, sink, place, slots, parts, rows, planned)
 }

@@ -28,7 +28,7 @@ pub(crate) struct PlannedColumns {
 }
 
 /// Plans for all columns what putting the values of rows behind theirs writes. It only reads. The index of a column's values is let go
-/// before the next column is planned; a plan keeps 4 bytes a row, and its new distinct values.
+/// before the next column is planned; a plan keeps 4 bytes a row.
 pub(crate) fn plan_columns<S: PageSource>(
     alloc: Global,
     source: &mut S,
@@ -85,8 +85,10 @@ fn plan_column<S: PageSource>(
     fp.plan(alloc, source, cells)
 }
 
-/// Writes what was planned for all columns, and reads nothing. Each plan is let go once it is written.
+/// Writes what was planned for putting these rows behind those of all columns, and reads nothing. Each plan is let go once it is
+/// written, and so are its new distinct values, for which it takes memory.
 pub(crate) fn write_columns<S: PageSink>(
+    alloc: Global,
     sink: &mut S,
     place: u32,
     slots: u32,
@@ -94,6 +96,7 @@ pub(crate) fn write_columns<S: PageSink>(
     rows: &Rows,
     planned: PlannedColumns,
 ) -> Result<Vec<ColumnPart>, PageFault>
+    requires kinds { rows.now.kinds ≡ part_kinds parts.now }
     requires plans { ArePlans place slots parts.now planned.grown.items rows.now.rows (view S.PageSource sink.old) planned.plans.items }
     requires grown { AreGrown (length rows.now.rows) parts.now planned.grown.items }
     ensures grown { IfOk result (λ grown. grown.items ≡ planned.grown.items) }
@@ -109,8 +112,10 @@ pub(crate) fn write_columns<S: PageSink>(
     cells_fit_pages(parts);
     let PlannedColumns { plans, grown } = planned;
     let _of = (place, slots, rows.len());
+    let mut c = 0;
     for plan in plans {
-        plan.carry_out(sink)?;
+        plan.carry_out(alloc, sink, rows.column(c))?;
+        c += 1;
     }
     Ok(grown)
 }

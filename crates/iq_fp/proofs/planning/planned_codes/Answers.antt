@@ -14,7 +14,7 @@ returns-in_err-load_last-clause-cause g c =
     rw (p.1, p.2) (behind_cause old (view g.S.PageSource c.args.source.now) (view g.S.PageSource c.load_last.new.source) c.in_err-load_last.field-0.0 cause)
 
 pub returns-clause-below : goal.returns-clause-below
-returns-clause-below g c = c.in_ok-codes.ensures.below c.args.new.now.distinct c.requires.more (rw c.deref.ensures.value c.requires.below)
+returns-clause-below g c = c.in_ok-codes.ensures.below c.args.new.now.distinct c.requires.more c.requires.below
 
 pub returns-clause-codes : goal.returns-clause-codes
 returns-clause-codes g c =
@@ -22,5 +22,6 @@ returns-clause-codes g c =
     record {
       same = λ keeps. absurd (other keeps);
       last = λ keeps. absurd (other keeps);
-      all = λ wider. rw c.deref.ensures.value at c.in_ok-codes.ensures.codes;
+      all = λ wider. c.in_ok-codes.ensures.codes;
+      ends = c.in_ok-codes.ensures.ends;
     }

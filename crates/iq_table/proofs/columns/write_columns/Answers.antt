@@ -1,8 +1,9 @@
-use Rattle.std.proofs.Common.{◌≡◌, ◌<◌, ◌+◌, ◌∷◌, ◌++◌, [], List, length, take, refl, sym, ap, ◌∙◌, subst, append_assoc, arith}
+use Rattle.std.proofs.Common.{◌≡◌, ◌<◌, ℕ, ◌+◌, ◌∷◌, ◌++◌, [], List, length, take, refl, sym, ap, ◌∙◌, subst, append_assoc, arith}
 use Rattle.std.specs.Vec.Iter.{into_iter_items}
 use Rattle.std.proofs.lemmas.List.{length-append}
 use Rattle.std.proofs.lemmas.Option.{slice_get_within}
 use Rattle.std.proofs.lemmas.Result.{err_from_is_err_and}
+use Rattle.iq_base.specs.declared.values.Value.{Value}
 use Rattle.iq_base.specs.declared.descriptors.ColumnPart.{ColumnPart}
 use Rattle.iq_pages.specs.PageCalls.{view}
 use Rattle.iq_pages.specs.Pages.{CountsMore}
@@ -12,11 +13,13 @@ use Rattle.iq_cells.specs.Tables.{column_of}
 use Rattle.iq_fp.specs.declared.fp.Fp.{Fp}
 use Rattle.iq_fp.specs.declared.plan.Plan.{Plan}
 use Rattle.iq_fp.specs.Calls as fps
+use Rattle.iq_fp.specs.Plans.{IsPlanFor}
 use Rattle.iq_fp.proofs.Bounds.{up_to_more}
 use Rattle.iq_table.specs.Places.{part_at, fp_of}
 use Rattle.iq_table.specs.Calls.{columns_most}
 use Rattle.iq_table.specs.Plans.{IsColumnPlan}
 use Rattle.iq_table.proofs.Growth.{keeps_wider, keeps_next, next_codes, next_values, plan_next, plan_now, stand_next, written_next, most_next, most_first, column_cause, sink_cause, told_sink, most_written_within}
+use Rattle.iq_table.proofs.KindLists.{kind_at}
 use Rattle.iq_table.proofs.columns.write_columns.Goals as goal
 
 pub loop-plan-preserved : goal.loop-plan-preserved
@@ -38,14 +41,16 @@ loop-plan-preserved g c =
     let here = plan_next c.args.planned.plans.items at.yielded rest x shape in
     let within : k < length parts = omega (arith, slice_get_within c.args.planned.plans.items k x here, c.requires.plans.long) in
     let is : IsColumnPlan place slots k (part_at k parts) (part_at k made) rows b x = plan_now place slots k (part_at k parts) (part_at k made) rows a b x at.invariant.others (c.requires.plans.each k x here) in
+    let cells_are : c.column.result.now.values ≡ column_of k rows = c.column.ensures.values ∙ ap (λ (j : ℕ). column_of j rows) at.invariant.count in
     let count : length (at.yielded ++ x ∷ []) ≡ k + 1 = length-append at.yielded (x ∷ []) in
     let others : fps.KeepsOtherObjects (fp_of place slots k (part_at k parts)) b d = subst (λ (f : Fp). fps.KeepsOtherObjects f b d) is.column c.carry_out.ensures.others in
-    let more : fps.StandsForMore (fp_of place slots k (part_at k parts)) x.grown (column_of k rows) b.told d.told = subst (λ (f : Fp). fps.StandsForMore f x.grown (column_of k rows) b.told d.told) is.column (c.in_ok-carry_out.ensures.ok (column_of k rows) is.made_for) in
+    let more : fps.StandsForMore (fp_of place slots k (part_at k parts)) x.grown (column_of k rows) b.told d.told = subst (λ (f : Fp). fps.StandsForMore f x.grown (column_of k rows) b.told d.told) is.column (subst (λ (vs : List Value). fps.StandsForMore x.column x.grown vs b.told d.told) cells_are c.in_ok-carry_out.ensures.ok) in
     let wrote : CountsMore (fps.pages_written (fp_of place slots k (part_at k parts)) x.grown) b.writes d.writes = subst (λ (f : Fp). CountsMore (fps.pages_written f x.grown) b.writes d.writes) is.column c.in_ok-carry_out.ensures.written in
     let fits = c.cells_fit_pages.ensures k within in
     let most : CountsUpTo (fps.most_written (fp_of 0 slots 0 (part_at k parts)) (length rows)) b.writes d.writes = up_to_more _ _ _ _ (most_written_within place slots k (part_at k parts) (part_at k made) rows b x fits.0 fits.1 is) c.carry_out.ensures.unwritten in
     let slots_is : x.grown.slots ≡ slots + length rows = is.longer.slots ∙ ap (λ (f : Fp). f.slots + length rows) is.column in
     rw count (record {
+      count = omega (arith, at.invariant.count);
       shape = append_assoc at.yielded (x ∷ []) rest ∙ shape;
       left = (
           let was = at.invariant.left in
@@ -78,7 +83,13 @@ carry_out-requires g c =
     let here = plan_next c.args.planned.plans.items at.yielded rest x shape in
     let within : k < length parts = omega (arith, slice_get_within c.args.planned.plans.items k x here, c.requires.plans.long) in
     let is : IsColumnPlan place slots k (part_at k parts) (part_at k made) rows b x = plan_now place slots k (part_at k parts) (part_at k made) rows a b x at.invariant.others (c.requires.plans.each k x here) in
-    record { reached = is.reached }
+    let cells_are : c.column.result.now.values ≡ column_of k rows = c.column.ensures.values ∙ ap (λ (j : ℕ). column_of j rows) at.invariant.count in
+    let kind_is : c.column.result.now.kind ≡ (part_at k parts).kind = c.column.ensures.kind ∙ kind_at c.args.rows.now.kinds parts at.c k at.invariant.count within c.requires.kinds in
+    record {
+      kind = kind_is ∙ sym (ap (λ (f : Fp). f.kind) is.column);
+      made_for = subst (λ (vs : List Value). IsPlanFor b.told vs x) (sym cells_are) is.made_for;
+      reached = is.reached;
+    }
 
 pub returns-in_err-carry_out-clause-others : goal.returns-in_err-carry_out-clause-others
 returns-in_err-carry_out-clause-others g c =

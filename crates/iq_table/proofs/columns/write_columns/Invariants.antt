@@ -8,6 +8,7 @@ use Rattle.iq_table.proofs.columns.write_columns.Given as goal
 
 abbrev pub invariant-loop-plan : goal.invariant-loop-plan
 invariant-loop-plan g l = record {
+  count : l.c ≡ length l.yielded;
   shape : l.yielded ++ into_iter_items l.plan-iterator ≡ l.fn.planned.plans.items;
   left : into_iter_len l.plan-iterator ≡ length (into_iter_items l.plan-iterator);
   held : ColumnsStandForMore (length l.yielded) l.place l.slots (l.slots + length l.rows.rows) l.parts l.grown.items l.rows.rows (g.S.PageSource.told l.fn.sink) (g.S.PageSource.told l.sink);

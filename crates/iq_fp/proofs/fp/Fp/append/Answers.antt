@@ -3,10 +3,15 @@ use Rattle.std.proofs.lemmas.Grind.{rows}
 use Rattle.iq_base.specs.Cells.{width}
 use Rattle.iq_pieces.specs.Counts.{per_page, CountsUpTo}
 use Rattle.iq_fp.specs.Calls.{StandsForMore, pages_written, most_written}
-use Rattle.iq_fp.specs.Plans.{IsPlanFor}
 use Rattle.iq_fp.proofs.Bounds.{up_to_more, written_within}
 use Rattle.iq_fp.proofs.Growth.{plan_there, more_still}
 use Rattle.iq_fp.proofs.fp.Fp.append.Goals as goal
+
+pub carry_out-requires-clause-made_for : goal.carry_out-requires-clause-made_for
+carry_out-requires-clause-made_for g c =
+    let plan = c.in_ok-plan.plan in
+    let kept = c.plan.ensures.reads.kept.told in
+    plan_there plan (g.S.PageSource.told c.args.sink.now) (g.S.PageSource.told c.plan.new.source) c.args.cells.now.values (kept plan.column.codes) (kept plan.column.values) c.in_ok-plan.ensures.plan
 
 pub returns-clause-ok : goal.returns-clause-ok
 returns-clause-ok g c =
@@ -15,9 +20,8 @@ returns-clause-ok g c =
     let between = g.S.PageSource.told c.plan.new.source in
     let cells = c.args.cells.now.values in
     let kept = c.plan.ensures.reads.kept.told in
-    let is : IsPlanFor between cells plan = plan_there plan told between cells (kept plan.column.codes) (kept plan.column.values) c.in_ok-plan.ensures.plan in
     let more : StandsForMore plan.column plan.grown cells told (g.S.PageSource.told c.carry_out.new.sink) =
-    more_still plan.column plan.grown told between (g.S.PageSource.told c.carry_out.new.sink) cells (kept plan.column.codes) (kept plan.column.values) (c.in_ok-carry_out.ensures.ok cells is) in
+    more_still plan.column plan.grown told between (g.S.PageSource.told c.carry_out.new.sink) cells (kept plan.column.codes) (kept plan.column.values) c.in_ok-carry_out.ensures.ok in
     rw c.in_ok-plan.ensures.column at more
 
 pub returns-in_err-carry_out-clause-unwritten : goal.returns-in_err-carry_out-clause-unwritten

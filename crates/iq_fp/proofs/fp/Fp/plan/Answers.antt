@@ -11,7 +11,7 @@ use Rattle.iq_fp.proofs.fp.Fp.plan.Goals as goal
 pub returns-clause-plan : goal.returns-clause-plan
 returns-clause-plan g c =
     let self = c.args.self.now in
-    let grown : Fp = record self { slots = self.slots + c.len.result; distinct = self.distinct + c.len-2.result } in
+    let grown : Fp = record self { slots = self.slots + c.len.result; distinct = self.distinct + c.in_ok-values.values.fresh } in
     let kept = c.planned_values.ensures.reads.kept.told in
     record {
       more = c.in_ok-values.values.more.items;
