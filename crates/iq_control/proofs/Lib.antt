@@ -9,3 +9,4 @@ pub mod Moves
 pub mod Locks
 pub mod Opened
 pub mod Named
+pub mod Admitted

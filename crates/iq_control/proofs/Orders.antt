@@ -42,7 +42,7 @@ write_checks-low (writes.Load table rows text) db = on_table-low table (table_of
 write_checks-low (writes.Delete table cond) db = on_table-low table (table_of table db) _ (λ t. ((refl, refl), ((refl, refl), tt)))
 write_checks-low (writes.Update table changes cond) db = on_table-low table (table_of table db) _ (λ t. ((refl, refl), ((refl, refl), tt)))
 
-statement_checks-low : (statement : Statement) (db : Database) → AllByRecursion IsLow (statement_checks statement db)
+pub statement_checks-low : (statement : Statement) (db : Database) → AllByRecursion IsLow (statement_checks statement db)
 statement_checks-low (statements.Write write) db = write_checks-low write db
 statement_checks-low (statements.Select select) db = on_table-low select.table (table_of select.table db) _ (λ t. ((refl, refl), ((refl, refl), ((refl, refl), tt))))
 statement_checks-low other db = tt
@@ -53,11 +53,11 @@ write_room-high (writes.Insert table rows) db = at_table-high (table_of table db
 write_room-high (writes.Update table changes cond) db = at_table-high (table_of table db) _ (λ t. (refl, (refl, tt)))
 write_room-high other db = tt
 
-room_checks-high : (statement : Statement) (db : Database) → AllByRecursion IsHigh (room_checks statement db)
+pub room_checks-high : (statement : Statement) (db : Database) → AllByRecursion IsHigh (room_checks statement db)
 room_checks-high (statements.Write write) db = write_room-high write db
 room_checks-high other db = tt
 
-low_seven : (xs ys : List Check) → AllByRecursion IsLow xs → checks_below 7 (xs ++ ys) ≡ xs ++ checks_below 7 ys
+pub low_seven : (xs ys : List Check) → AllByRecursion IsLow xs → checks_below 7 (xs ++ ys) ≡ xs ++ checks_below 7 ys
 low_seven [] ys h = refl
 low_seven (x ∷ xs) ys h = rw (h.0.0) (ap (λ (zs : List Check). x ∷ zs) (low_seven xs ys h.1))
 
@@ -77,7 +77,7 @@ lock_checks s place statement run =
     ∷ record { order = 9; found = first_found (later_refusal s.wrote run.snapshot) (wanted statement run) }
     ∷ []
 
-early_seven : (s : State) (place : ℕ) (session : Session) (statement : Statement) (run : Run) → session.standing ≡ running run
+pub early_seven : (s : State) (place : ℕ) (session : Session) (statement : Statement) (run : Run) → session.standing ≡ running run
     → checks_below 7 (line_checks s place session statement) ≡ early_checks s.nodes session statement ++ checks_below 7 (run_checks s place (running run) statement)
 early_seven s place session statement run is = rw is refl
 

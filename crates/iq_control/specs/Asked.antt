@@ -1,5 +1,5 @@
 -- What is asked of the control and of a session's line before an entry.
-use Rattle.std.specs.Prelude.{if◌then◌else◌, ◌≡◌, ◌≤◌, ⊤, ℕ, ◌+◌, length, Bool, true, false, List, [], ◌∷◌, Option, Some, None, IsSomeAnd}
+use Rattle.std.specs.Prelude.{if◌then◌else◌, ◌≡◌, ◌≤◌, ⊤, ℕ, ◌+◌, length, Bool, true, false, List, [], ◌∷◌, ◌++◌, Option, Some, None, IsSomeAnd}
 use Rattle.std.specs.List.{slice_get}
 use Rattle.std.specs.Option.{option_or}
 use Rattle.iq_base.specs.Shorts.{Name}
@@ -8,7 +8,7 @@ use Rattle.iq_base.specs.declared.refusals.Refusal.TheVariants as refusals
 use Rattle.iq_ast.specs.declared.statements.Statement.{Statement}
 use Rattle.iq_ast.specs.declared.statements.Statement.TheVariants as statements
 use Rattle.iq_statements.specs.Checks.{Check, first_refusal}
-use Rattle.iq_statements.specs.Statements.{IsOnTables, IsWrite, HasMeaning, Begins, creates}
+use Rattle.iq_statements.specs.Statements.{IsOnTables, IsWrite, HasMeaning, Begins, creates, statement_checks, room_checks}
 use Rattle.iq_replay.specs.State.{State, Session, idle, Node, fresh, has_some, held_by}
 use Rattle.iq_replay.specs.Nodes.{node_position, is_reader}
 use Rattle.iq_replay.specs.Refusals.{lost_refusal, at_node, excluded_refusal, transaction_refusal, before_line, reader_refusal, wanted, line_checks, checks_below, checks_but}
@@ -148,3 +148,14 @@ IsNamed s place session statement = IsGranted (checks_below 7 (line_checks s pla
 -- nothing but a halt refuses it
 abbrev pub IsUnrefused : State → ℕ → Session → Statement → Type 0
 IsUnrefused s place session statement = IsGranted (checks_but 7 (line_checks s place session statement))
+
+-- WHAT THE TABLES TELL OF A LINE
+
+-- the tests of names and values find nothing over the tables as the line began
+abbrev pub AreNamed : Session → Statement → Type 0
+AreNamed session statement = IsRunning session.standing (λ run. IsGranted (statement_checks statement run.start.seen))
+
+-- the names that it locks are held, and the tests of names, values and room find nothing
+abbrev pub AreFit : Session → Statement → Type 0
+AreFit session statement =
+    IsRunning session.standing (λ run. HoldsAll run statement × IsGranted (statement_checks statement run.start.seen ++ room_checks statement run.start.seen))

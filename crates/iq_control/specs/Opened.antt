@@ -44,3 +44,13 @@ pub record IsReady (script : Script) (history : HistoryState) : Type 0 where
   pub session_names : history.sessions ≡ names_of_sessions script
   pub no_entries : history.entries ≡ []
   pub room : entries_due script.sessions ≤ history.room
+
+-- a history under a script's names
+pub record HasNames (script : Script) (history : HistoryState) : Type 0 where
+  pub nodes : history.nodes ≡ names_of_nodes script
+  pub sessions : history.sessions ≡ names_of_sessions script
+
+-- the control's entries, under its script's names
+pub record IsHistoryOf (c : ControlState) (history : HistoryState) : Type 0 where
+  pub names : HasNames c.script history
+  pub entries : history.entries ≡ c.entries

@@ -10,7 +10,7 @@ ghost use Rattle.iq_replay.specs.Lines.{runs};
 ghost use Rattle.iq_replay.specs.Nodes.{snapshot_of};
 ghost use Rattle.iq_replay.specs.State.{held_by, has_name};
 ghost use Rattle.iq_sessions.specs.Bare.{At, was_lost};
-ghost use Rattle.iq_control.specs.Opened.{IsControllable, IsOpened};
+ghost use Rattle.iq_control.specs.Opened.{HasNames, IsControllable, IsHistoryOf, IsOpened};
 ghost use Rattle.iq_sessions.specs.Table.{AsksOpen, AsksSave, AsksCommit, CommitsAt, noted_at};
 ghost use Rattle.iq_control.specs.Asked.{AtLine, IsReaderName, early_checks, IsSnapshot, AsksBegin, AsksLock, AsksTake, AreFree, AreNotFree, HasHoldRoom, AsksEnd, AsksRun};
 ghost use Rattle.iq_control.specs.Changes.{noted, begun, locked_more, took, refused_line, committed_at, ended, rolled_back, rolled_at_end, halted_at, saved, went_back, released};
@@ -38,6 +38,7 @@ pub struct Control {
     closing: bool,
     nodes: Vec<ControlNode>,
     table: SessionTable,
+    ghost named: { HasNames script.value history },
 }
 
 impl Model for Control {
@@ -88,7 +89,7 @@ impl Control {
 
     /// The history so far.
     pub fn history(&self) -> &History
-        ensures { result.now.entries ≡ self.now.entries }
+        ensures { IsHistoryOf self.now result.now }
     {
         &self.history
     }

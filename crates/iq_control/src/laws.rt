@@ -17,7 +17,7 @@ ghost use Rattle.iq_sessions.specs.Bare.{At};
 ghost use Rattle.iq_sessions.specs.Table.{TableState, CommitsAt};
 ghost use Rattle.iq_control.specs.Control.{ControlState, Agrees, Follows};
 ghost use Rattle.iq_control.specs.Changes.{begun, locked_more, took, refused_line, committed_at, ended, rolled_back, rolled_at_end, halted_at, saved, went_back, released};
-ghost use Rattle.iq_control.specs.Asked.{AtLine, IsSnapshot, AsksBegin, AsksLock, AsksTake, AsksEnd, AsksRun, AreFree, AreRefused, IsNotAdmitted, HasLost, IsWriting, IsHaltedCommit, IsNamed, IsUnrefused};
+ghost use Rattle.iq_control.specs.Asked.{AtLine, IsSnapshot, AsksBegin, AsksLock, AsksTake, AsksEnd, AsksRun, AreFree, AreRefused, IsNotAdmitted, HasLost, IsWriting, IsHaltedCommit, IsAdmitted, AreNamed, AreFit, IsNamed, IsUnrefused};
 
 /// The control of a script before the first entry follows from any tables.
 pub fn the_control_follows_an_opening()
@@ -109,4 +109,13 @@ pub fn the_control_knows_causes()
     ensures memory { (c : ControlState) (s : State) (place l : ℕ) → Agrees c s
         → AtLine c place l (λ session statement. IsOpen session.stage)
         → OfLine s place l (CanRefuse s place refusals.NoMemory) }
+{}
+
+/// What nothing refuses: where the tests before a statement's own and those of its names and values find nothing, nothing but a halt,
+/// a lock, a later commit or want of room does; where its names are held too and there is room, nothing but a halt.
+pub fn the_control_admits_lines()
+    ensures named { (c : ControlState) (s : State) (place l : ℕ) → Agrees c s
+        → AtLine c place l (IsAdmitted c.nodes) → OfLine s place l AreNamed → OfLine s place l (IsNamed s place) }
+    ensures unrefused { (c : ControlState) (s : State) (place l : ℕ) → Agrees c s
+        → AtLine c place l (IsAdmitted c.nodes) → OfLine s place l AreFit → OfLine s place l (IsUnrefused s place) }
 {}

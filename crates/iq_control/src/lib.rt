@@ -14,8 +14,9 @@ mod refusals;
 
 pub use control::Control;
 pub use laws::{
-    the_control_follows_a_begin, the_control_follows_a_lock, the_control_follows_a_refusal,
-    the_control_follows_a_rollback, the_control_follows_a_savepoint, the_control_follows_an_effect,
-    the_control_follows_an_end, the_control_follows_an_opening, the_control_knows_causes,
+    the_control_admits_lines, the_control_follows_a_begin, the_control_follows_a_lock,
+    the_control_follows_a_refusal, the_control_follows_a_rollback, the_control_follows_a_savepoint,
+    the_control_follows_an_effect, the_control_follows_an_end, the_control_follows_an_opening,
+    the_control_knows_causes,
 };
 pub use nodes::ControlNode;

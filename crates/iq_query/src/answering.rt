@@ -1,6 +1,7 @@
 //! What a query answers.
 ghost use Rattle.std.specs.Prelude.{◌≡◌, ◌<◌, ◌≤◌, ◌⊎◌, ◌+◌, ℕ, length, map, pos, [], ◌∷◌, Some, None, IfOk, OnOk, IfErr, true, false};
 ghost use Rattle.std.specs.List.{filter_map};
+ghost use Rattle.iq_history.specs.Placed.{IsPlacedRefusal};
 ghost use Rattle.iq_pages.specs.PageCalls.{view};
 ghost use Rattle.iq_pieces.specs.Counts.{OnlyReads};
 ghost use Rattle.iq_chunks.specs.Chunks.{chunks_for};
@@ -37,6 +38,7 @@ pub fn select<S: PageSource>(
     ensures granted { OnOk result (OfDescribed tables.now (λ db. first_refusal (query_checks statement.now db) ≡ None)) }
     ensures answer { IfOk result (λ told. OfStanding (S.told source.old) tables.now (λ db. told ≡ answer statement.now db)) }
     ensures reads { OnlyReads (pages_needed tables.now statement.now) (view S.PageSource source.old) (view S.PageSource source.new) }
+    ensures placed { IfErr result (λ e. (n : ℕ) → IsPlacedRefusal n e) }
     ensures cause { IfErr result (HasQueryCause tables.now statement.now (view S.PageSource source.old) (view S.PageSource source.new)) }
 {
     match place_of(tables, &statement.table) {
@@ -61,6 +63,7 @@ fn answer_of<S: PageSource>(
     ensures granted { OnOk result ((t : PlainTable) → Describes table.now t → first_refusal (select_checks statement.now t) ≡ None) }
     ensures answer { IfOk result (λ told. OfTableAt (S.told source.old) place table.now (λ t. told ≡ answer_at (Some t) statement.now)) }
     ensures reads { OnlyReads (pages_at statement.now place (Some table.now)) (view S.PageSource source.old) (view S.PageSource source.new) }
+    ensures placed { IfErr result (λ e. (n : ℕ) → IsPlacedRefusal n e) }
     ensures cause { IfErr result (λ cause. ((t : PlainTable) → Describes table.now t → first_refusal (select_checks statement.now t) ≡ Some cause)
         ⊎ IsUnread place table.now (view S.PageSource source.old) (view S.PageSource source.new) cause ⊎ (cause ≡ Refusal.NoMemory)) }
 {
@@ -118,7 +121,8 @@ fn counted(alloc: Global, count: u32) -> Result<AnswerRows, NoMemory>
 
 /// A fault of pages as a line is refused.
 fn refusal_of(fault: PageFault) -> Refusal
-    ensures { result ≡ page_refusal fault }
+    ensures is { result ≡ page_refusal fault }
+    ensures placed { (n : ℕ) → IsPlacedRefusal n result }
 {
     match fault {
         PageFault::Failed { before, after } => Refusal::StoreFault { before, after },

@@ -1,6 +1,7 @@
 //! The columns that a query answers, by their places.
 ghost use Rattle.std.specs.Prelude.{◌≡◌, ◌≢◌, ◌<◌, ◌⊎◌, ℕ, length, slice_index, None, Some, [], ◌∷◌, IfOk, OnOk, IfErr, IfSome};
 ghost use Rattle.std.specs.List.{AllByRecursion, filter_map};
+ghost use Rattle.iq_history.specs.Placed.{IsPlacedRefusal};
 ghost use Rattle.iq_conditions.specs.Servers.{column_place};
 ghost use Rattle.iq_statements.specs.Checks.{first_found};
 ghost use Rattle.iq_statements.specs.Named.{item_column, no_column};
@@ -21,6 +22,7 @@ pub(crate) fn places(
     ensures places { IfOk result (λ places. places.items ≡ places_of columns.now items.now) }
     ensures within { IfOk result (λ places. AreWithin (length columns.now) places.items) }
     ensures granted { OnOk result (first_found (no_column columns.now) (filter_map item_column items.now) ≡ None) }
+    ensures placed { IfErr result (λ e. (n : ℕ) → IsPlacedRefusal n e) }
     ensures cause { IfErr result (λ e. (e ≡ Refusal.NoMemory) ⊎ (first_found (no_column columns.now) (filter_map item_column items.now) ≡ Some e)) }
 {
     if items.is_empty() {
@@ -52,6 +54,7 @@ fn named_places(alloc: Global, columns: &[Column], items: &[Item]) -> Result<Vec
     ensures places { IfOk result (λ places. places.items ≡ filter_map (item_place columns.now) items.now) }
     ensures within { IfOk result (λ places. AreWithin (length columns.now) places.items) }
     ensures granted { OnOk result (first_found (no_column columns.now) (filter_map item_column items.now) ≡ None) }
+    ensures placed { IfErr result (λ e. (n : ℕ) → IsPlacedRefusal n e) }
     ensures cause { IfErr result (λ e. (e ≡ Refusal.NoMemory) ⊎ (first_found (no_column columns.now) (filter_map item_column items.now) ≡ Some e)) }
 {
     let mut places = Vec::new(alloc);
@@ -66,6 +69,7 @@ fn place_in(columns: &[Column], item: &Item) -> Result<usize, Refusal>
     requires { IsColumnItem item.now }
     ensures place { IfOk result (λ place. item_place columns.now item.now ≡ Some place) }
     ensures within { IfOk result (λ place. place < length columns.now) }
+    ensures placed { IfErr result (λ e. (n : ℕ) → IsPlacedRefusal n e) }
     ensures cause { IfErr result (λ e. first_found (no_column columns.now) (filter_map item_column (item.now ∷ [])) ≡ Some e) }
 {
     match item {

@@ -40,8 +40,8 @@ bad_cause name rows ds i at columns before after e place is are (inr found) = in
 
 pub append_cause : (name : Name) (rows : List (List Value)) (ds : List Descriptor) (i : ℕ) (at : Descriptor) (columns : List Column) (before after : Seen) (fault : TableFault) → place_from 0 name ds ≡ Some i → i < length ds → at ≡ get_or ds i at → columns ≡ as_columns at.columns
     → at.indexes ≡ [] → first_bad_row 1 columns rows ≡ None → HasAppendCause (record { place = i; parts = at }) (length rows) before after fault → HasWriteCause ds (writes.Insert name rows) before after (table_refusal fault)
-append_cause name rows ds i at columns before after (faults.Failed x y) place less is are plain good h = inr (inl (record { fault = faults.Failed x y; cause_is = refl; place = i; table = at; there = got_there ds i at less is; why = h }))
-append_cause name rows ds i at columns before after (faults.BadPage object page) place less is are plain good h = inr (inl (record { fault = faults.BadPage object page; cause_is = refl; place = i; table = at; there = got_there ds i at less is; why = h }))
+append_cause name rows ds i at columns before after (faults.Failed x y) place less is are plain good h = inr (inl (record { fault = faults.Failed x y; of_pages = tt; cause_is = refl; place = i; table = at; there = got_there ds i at less is; why = h }))
+append_cause name rows ds i at columns before after (faults.BadPage object page) place less is are plain good h = inr (inl (record { fault = faults.BadPage object page; of_pages = tt; cause_is = refl; place = i; table = at; there = got_there ds i at less is; why = h }))
 append_cause name rows ds i at columns before after faults.NoMemory place less is are plain good h = inr (inr refl)
 append_cause name rows ds i at columns before after (faults.TableFull limit) place less is are plain good h = inl (all_full name rows ds i at columns limit place is are plain good h.0 h.1)
 

@@ -1,5 +1,5 @@
 -- What a write does to descriptors and pages, and why it doesn't.
-use Rattle.std.specs.Prelude.{◌≡◌, ◌≢◌, ◌⊎◌, ℕ, ◌/◌, List, ◌++◌, Option, Some, None, length}
+use Rattle.std.specs.Prelude.{◌≡◌, ◌≢◌, ◌⊎◌, ⊤, ℕ, ◌/◌, List, ◌++◌, Option, Some, None, length}
 use Rattle.iq_base.specs.Shorts.{Name}
 use Rattle.iq_base.specs.declared.values.Value.{Value}
 use Rattle.iq_base.specs.declared.schemas.Column.{Column}
@@ -90,9 +90,17 @@ table_refusal (faults.BadPage object page) = refusals.BadPage object page
 table_refusal faults.NoMemory = refusals.NoMemory
 table_refusal (faults.TableFull limit) = refusals.TableFull limit
 
+-- a fault of pages: the store failed, or a page isn't sound
+abbrev pub IsOfPages : TableFault → Type 0
+IsOfPages (faults.Failed x y) = ⊤
+IsOfPages (faults.BadPage object page) = ⊤
+IsOfPages faults.NoMemory = ⊥
+IsOfPages (faults.TableFull limit) = ⊥
+
 -- pages of a table aren't read or written
 pub record IsUnwritten (ds : List Descriptor) (more : ℕ) (before after : Seen) (cause : Refusal) : Type 0 where
   pub fault : TableFault
+  pub of_pages : IsOfPages fault
   pub cause_is : cause ≡ table_refusal fault
   pub place : ℕ
   pub table : Descriptor

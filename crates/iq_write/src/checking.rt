@@ -1,5 +1,6 @@
 //! What refuses a write before it has its locks.
-ghost use Rattle.std.specs.Prelude.{◌≡◌, ◌≤◌, ◌⊎◌, length, None, Some, OnOk, IfErr};
+ghost use Rattle.std.specs.Prelude.{◌≡◌, ◌≤◌, ◌⊎◌, ℕ, length, None, Some, OnOk, IfErr};
+ghost use Rattle.iq_history.specs.Placed.{IsPlacedRefusal};
 ghost use Rattle.iq_statements.specs.Checks.{first_refusal};
 ghost use Rattle.iq_statements.specs.Named.{write_checks, create_checks};
 ghost use Rattle.iq_database.specs.Standing.{OfDescribed, AreTables};
@@ -18,6 +19,7 @@ pub fn check(alloc: Global, tables: &[Descriptor], write: &Write) -> Result<(), 
     requires tables { AreTables tables.now }
     requires simple { IsSimpleWrite write.now }
     ensures granted { OnOk result (OfDescribed tables.now (λ db. first_refusal (write_checks write.now db) ≡ None)) }
+    ensures placed { IfErr result (λ e. (n : ℕ) → IsPlacedRefusal n e) }
     ensures cause { IfErr result (λ e. (e ≡ Refusal.NoMemory) ⊎ OfDescribed tables.now (λ db. first_refusal (write_checks write.now db) ≡ Some e)) }
 {
     match write {
@@ -34,6 +36,7 @@ pub fn check(alloc: Global, tables: &[Descriptor], write: &Write) -> Result<(), 
 
 fn check_create(tables: &[Descriptor], name: &Name) -> Result<(), Refusal>
     ensures granted { OnOk result (OfDescribed tables.now (λ db. first_refusal (create_checks name.now db) ≡ None)) }
+    ensures placed { IfErr result (λ e. (n : ℕ) → IsPlacedRefusal n e) }
     ensures cause { IfErr result (λ e. OfDescribed tables.now (λ db. first_refusal (create_checks name.now db) ≡ Some e)) }
 {
     match place_of(tables, name) {
@@ -45,6 +48,7 @@ fn check_create(tables: &[Descriptor], name: &Name) -> Result<(), Refusal>
 
 fn check_drop(tables: &[Descriptor], name: &Name) -> Result<(), Refusal>
     ensures granted { OnOk result (OfDescribed tables.now (λ db. first_refusal (drop_checks name.now db) ≡ None)) }
+    ensures placed { IfErr result (λ e. (n : ℕ) → IsPlacedRefusal n e) }
     ensures cause { IfErr result (λ e. OfDescribed tables.now (λ db. first_refusal (drop_checks name.now db) ≡ Some e)) }
 {
     match place_of(tables, name) {
@@ -62,6 +66,7 @@ fn check_insert(
     requires tables { AreTables tables.now }
     requires few { length rows.now ≤ 16777216 }
     ensures granted { OnOk result (OfDescribed tables.now (λ db. first_refusal (insert_checks name.now rows.now db) ≡ None)) }
+    ensures placed { IfErr result (λ e. (n : ℕ) → IsPlacedRefusal n e) }
     ensures cause { IfErr result (λ e. (e ≡ Refusal.NoMemory) ⊎ OfDescribed tables.now (λ db. first_refusal (insert_checks name.now rows.now db) ≡ Some e)) }
 {
     let Some(place) = place_of(tables, name) else {

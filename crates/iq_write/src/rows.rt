@@ -1,5 +1,6 @@
 //! Rows of an INSERT.
-ghost use Rattle.std.specs.Prelude.{◌≡◌, ◌<◌, ◌≤◌, ◌^◌, ◌⊎◌, length, None, Some, IfOk, OnOk, IfErr};
+ghost use Rattle.std.specs.Prelude.{◌≡◌, ◌<◌, ◌≤◌, ◌^◌, ◌⊎◌, ℕ, length, None, Some, IfOk, OnOk, IfErr, IfSome};
+ghost use Rattle.iq_history.specs.Placed.{IsPlacedRefusal};
 ghost use Rattle.iq_cells.specs.Growing.{kinds_of};
 ghost use Rattle.iq_statements.specs.Named.{bad_row, first_bad_row};
 
@@ -12,7 +13,8 @@ use std::alloc::Global;
 pub(crate) fn first_bad_row(columns: &[Column], rows: &[Row]) -> Option<Refusal>
     requires few_columns { length columns.now < 2 ^ 32 }
     requires few_rows { length rows.now < 2 ^ 32 }
-    ensures { result ≡ first_bad_row 1 columns.now rows.now }
+    ensures found { result ≡ first_bad_row 1 columns.now rows.now }
+    ensures placed { IfSome result (λ e. (n : ℕ) → IsPlacedRefusal n e) }
 {
     for (i, row) in rows.iter().enumerate() {
         if let Some(bad) = first_bad_field(columns, row.as_slice()) {
@@ -24,7 +26,8 @@ pub(crate) fn first_bad_row(columns: &[Column], rows: &[Row]) -> Option<Refusal>
 
 /// The refusal of a row for its first bad field.
 fn bad_row(row: u32, bad: BadField) -> Refusal
-    ensures { Some result ≡ bad_row row (Some bad) }
+    ensures is { Some result ≡ bad_row row (Some bad) }
+    ensures placed { (n : ℕ) → IsPlacedRefusal n result }
 {
     Refusal::BadRow {
         row,
@@ -39,6 +42,7 @@ pub(crate) fn cells_of(alloc: Global, columns: &[Column], rows: &[Row]) -> Resul
     requires few_rows { length rows.now ≤ 16777216 }
     ensures cells { IfOk result (λ cells. cells ≡ record { kinds = kinds_of columns.now; rows = rows.now }) }
     ensures granted { OnOk result (first_bad_row 1 columns.now rows.now ≡ None) }
+    ensures placed { IfErr result (λ e. (n : ℕ) → IsPlacedRefusal n e) }
     ensures cause { IfErr result (λ e. (e ≡ Refusal.NoMemory) ⊎ (first_bad_row 1 columns.now rows.now ≡ Some e)) }
 {
     let mut cells = Rows::with_room(alloc, columns, rows.len())?;

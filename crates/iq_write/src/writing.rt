@@ -1,5 +1,6 @@
 //! The effect of a write on descriptors and pages.
 ghost use Rattle.std.specs.Prelude.{◌≡◌, ◌<◌, ◌≤◌, ◌⊎◌, ℕ, length, None, Some, OnOk, OnErr, IfOk, IfErr};
+ghost use Rattle.iq_history.specs.Placed.{IsPlacedRefusal};
 ghost use Rattle.iq_pages.specs.PageCalls.{view};
 ghost use Rattle.iq_ast.specs.declared.statements.Write.TheVariants as writes;
 ghost use Rattle.iq_base.specs.Cells.{width};
@@ -46,6 +47,7 @@ pub fn write<S: PageSink>(
     ensures unchanged { OnErr result (tables.new.items ≡ tables.old.items) }
     ensures others { KeepsOtherTables (changed_place write.now tables.old.items) (view S.PageSource sink.old) (view S.PageSource sink.new) }
     ensures later { S.faults sink.old ≤ S.faults sink.new }
+    ensures placed { IfErr result (λ e. (n : ℕ) → IsPlacedRefusal n e) }
     ensures cause { IfErr result (HasWriteCause tables.old.items write.now (view S.PageSource sink.old) (view S.PageSource sink.new)) }
 {
     match write {
@@ -75,6 +77,7 @@ fn create(
     ensures few { OnOk result (ArePlain tables.new.items) }
     ensures written { IfOk result (λ written. written ≡ record { rows = 0; place = Some (before_from 0 name.now tables.old.items) }) }
     ensures unchanged { OnErr result (tables.new.items ≡ tables.old.items) }
+    ensures placed { IfErr result (λ e. (n : ℕ) → IsPlacedRefusal n e) }
     ensures cause { IfErr result (λ e. OfDescribed tables.old.items (λ db. first_refusal (create_checks name.now db) ≡ Some e) ⊎ (e ≡ Refusal.NoMemory)) }
 {
     if place_of(tables.as_slice(), name).is_some() {
@@ -109,6 +112,7 @@ fn remove(tables: &mut Vec<Descriptor>, name: &Name) -> Result<Written, Refusal>
     ensures few { OnOk result (ArePlain tables.new.items) }
     ensures written { IfOk result (λ written. written ≡ record { rows = 0; place = None }) }
     ensures unchanged { OnErr result (tables.new.items ≡ tables.old.items) }
+    ensures placed { IfErr result (λ e. (n : ℕ) → IsPlacedRefusal n e) }
     ensures cause { IfErr result (λ e. OfDescribed tables.old.items (λ db. first_refusal (drop_checks name.now db) ≡ Some e)) }
 {
     let Some(place) = place_of(tables.as_slice(), name) else {
@@ -137,6 +141,7 @@ fn insert<S: PageSink>(
     ensures unchanged { OnErr result (tables.new.items ≡ tables.old.items) }
     ensures others { KeepsOtherTables (place_from 0 name.now tables.old.items) (view S.PageSource sink.old) (view S.PageSource sink.new) }
     ensures later { S.faults sink.old ≤ S.faults sink.new }
+    ensures placed { IfErr result (λ e. (n : ℕ) → IsPlacedRefusal n e) }
     ensures cause { IfErr result (HasWriteCause tables.old.items (writes.Insert name.now rows.now) (view S.PageSource sink.old) (view S.PageSource sink.new)) }
 {
     let Some(place) = place_of(tables.as_slice(), name) else {
@@ -163,7 +168,8 @@ fn insert<S: PageSink>(
 
 /// A fault of a table as a line is refused.
 fn refusal_of(fault: TableFault) -> Refusal
-    ensures { result ≡ table_refusal fault }
+    ensures is { result ≡ table_refusal fault }
+    ensures placed { (n : ℕ) → IsPlacedRefusal n result }
 {
     match fault {
         TableFault::Failed { before, after } => Refusal::StoreFault { before, after },

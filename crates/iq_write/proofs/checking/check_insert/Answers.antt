@@ -8,10 +8,10 @@ returns-in_default-clause-cause c = inr (rw c.again.ensures (insert_missing c.ar
 pub returns-in-None-clause-granted : goal.returns-in-None-clause-granted
 returns-in-None-clause-granted c =
     insert_found c.args.name.now c.args.rows.now c.args.tables.now c.in-Some.place c.index-tables-place.result c.as_slice.result.now _ (sym c.place_of.ensures.place ∙ c.in-Some.is) c.index-tables-place.is
-    (c.as_slice.ensures ∙ c.in_ok-columns.ensures) (sym c.first_bad_row.ensures ∙ c.in-None.is)
+    (c.as_slice.ensures ∙ c.in_ok-columns.ensures) (sym c.first_bad_row.ensures.found ∙ c.in-None.is)
 
 pub returns-clause-cause : goal.returns-clause-cause
 returns-clause-cause c =
     inr
     (insert_found c.args.name.now c.args.rows.now c.args.tables.now c.in-Some.place c.index-tables-place.result c.as_slice.result.now _ (sym c.place_of.ensures.place ∙ c.in-Some.is) c.index-tables-place.is
-    (c.as_slice.ensures ∙ c.in_ok-columns.ensures) (sym c.first_bad_row.ensures ∙ c.in-Some-first_bad_row.is))
+    (c.as_slice.ensures ∙ c.in_ok-columns.ensures) (sym c.first_bad_row.ensures.found ∙ c.in-Some-first_bad_row.is))

@@ -34,7 +34,7 @@ returns-in-Err-clause-cause g c =
     let columns = c.as_slice-2.ensures ∙ c.in_ok-columns.ensures in
     let rows = ap (λ (list : RowList). list.rows) c.in_ok-cells.ensures.cells in
     let plain = read_of_all (λ (d : Descriptor). d.indexes ≡ []) ds c.in-Some.place c.index-before.result.now less c.index-before.ensures c.requires.tables.plain in
-    rw c.refusal_of.ensures
+    rw c.refusal_of.ensures.is
     (append_cause c.args.name.now c.args.rows.now ds c.in-Some.place c.index-before.result.now c.as_slice-2.result.now (view g.S.PageSource c.args.sink.now) (view g.S.PageSource c.append_rows.new.sink) c.in-Err.fault
     there less c.index-before.ensures columns plain c.in_ok-cells.ensures.granted (rw (c.in_ok-copied.ensures, rows) at c.in-Err.ensures.cause))
 

@@ -1,0 +1,3 @@
+pub mod Places
+pub mod Moving
+pub mod Running
