@@ -1,155 +1,182 @@
 //! What queries answer.
-use crate::replies::{FOUR_ROWS, Lines, tells};
+use crate::made::{
+    all_where, both, compare, either, four_rows, keeps, name, not_so, ordered, plans, select,
+    tells, text, with_low_fast,
+};
+use iq_ast::{Cond, Item, Op, Test};
+use iq_base::{Listed, Value};
+use std::alloc::Global;
 use std::test::Fail;
 
-const CONDITIONS: Lines = &[
-    // Without a condition all rows are kept.
-    (
-        "SELECT * FROM t",
-        "rows 4\n  1,'x'\n  2,NULL\n  NULL,'y'\n  2,'x'",
-    ),
-    // NOT leaves unknown out.
-    ("SELECT * FROM t WHERE NOT a = 2", "rows 1\n  1,'x'"),
-    // OR keeps what one of its members keeps, and AND what each of them keeps.
-    (
-        "SELECT * FROM t WHERE a = 1 OR b = 'y'",
-        "rows 2\n  1,'x'\n  NULL,'y'",
-    ),
-    ("SELECT * FROM t WHERE a = 2 AND b = 'x'", "rows 1\n  2,'x'"),
-];
-
 #[test]
-fn a_condition_keeps_the_rows_of_which_it_is_true(rt: HostRuntime) -> Result<(), Fail> {
-    tells(&rt, FOUR_ROWS, CONDITIONS)
+fn without_a_condition_all_rows_are_kept(rt: HostRuntime) -> Result<(), Fail> {
+    keeps(&rt, rt.alloc(), None, "1,x,;2,NULL,;NULL,y,;2,x,;")
 }
 
-const AGGREGATES: Lines = &[
-    // They leave NULL out.
-    (
-        "SELECT COUNT(*), COUNT(a), SUM(a), MAX(a) FROM t",
-        "rows 1\n  4,3,5,2",
-    ),
-    // Of no row they are one row.
-    (
-        "SELECT COUNT(*), COUNT(a), SUM(a), MAX(a) FROM t WHERE a > 9",
-        "rows 1\n  0,0,NULL,NULL",
-    ),
-];
-
 #[test]
-fn aggregates_leave_null_out_and_are_one_row_of_none(rt: HostRuntime) -> Result<(), Fail> {
-    tells(&rt, FOUR_ROWS, AGGREGATES)
+fn not_leaves_unknown_out(rt: HostRuntime) -> Result<(), Fail> {
+    let cond = not_so(rt.alloc(), compare("a", Op::Eq, Value::Int(2))?)?;
+    keeps(&rt, rt.alloc(), Some(cond), "1,x,;")
 }
 
-const GROUPS: Lines = &[
-    // They come in the order of their keys.
-    (
-        "SELECT a, COUNT(*), MIN(b) FROM t GROUP BY a",
-        "rows 3\n  NULL,1,'y'\n  1,1,'x'\n  2,2,'x'",
-    ),
-    // Or they come as asked.
-    (
-        "SELECT a, COUNT(*), MIN(b) FROM t GROUP BY a ORDER BY a DESC",
-        "rows 3\n  2,2,'x'\n  1,1,'x'\n  NULL,1,'y'",
-    ),
-];
-
 #[test]
-fn groups_come_in_the_order_of_their_keys_or_as_asked(rt: HostRuntime) -> Result<(), Fail> {
-    tells(&rt, FOUR_ROWS, GROUPS)
+fn or_keeps_what_one_of_its_members_keeps(rt: HostRuntime) -> Result<(), Fail> {
+    let one = compare("a", Op::Eq, Value::Int(1))?;
+    let cond = either(rt.alloc(), one, compare("b", Op::Eq, text("y")?)?)?;
+    keeps(&rt, rt.alloc(), Some(cond), "1,x,;NULL,y,;")
 }
 
-const ORDERS: Lines = &[
-    // Ascending puts NULL first.
-    (
-        "SELECT * FROM t ORDER BY a",
-        "rows 4\n  NULL,'y'\n  1,'x'\n  2,NULL\n  2,'x'",
-    ),
-    // Descending puts NULL last and keeps ties.
-    (
-        "SELECT * FROM t ORDER BY a DESC",
-        "rows 4\n  2,NULL\n  2,'x'\n  1,'x'\n  NULL,'y'",
-    ),
-];
-
 #[test]
-fn null_comes_first_ascending_and_last_descending(rt: HostRuntime) -> Result<(), Fail> {
-    tells(&rt, FOUR_ROWS, ORDERS)
+fn and_keeps_what_each_of_its_members_keeps(rt: HostRuntime) -> Result<(), Fail> {
+    let one = compare("a", Op::Eq, Value::Int(2))?;
+    let cond = both(rt.alloc(), one, compare("b", Op::Eq, text("x")?)?)?;
+    keeps(&rt, rt.alloc(), Some(cond), "2,x,;")
 }
 
-const PLANS: Lines = &[
-    // Without a condition all is read.
-    ("EXPLAIN SELECT * FROM t", "plan 1\n  all via existence"),
-    ("CREATE LF INDEX i ON t (a)", "created"),
-    // NOT is carried to the tests, and what serves is named.
-    (
-        "EXPLAIN SELECT * FROM t WHERE NOT (a = 2 OR b IS NULL)",
-        "plan 2\n  a <> 2 via LF i\n  b IS NOT NULL via FP",
-    ),
-    // BETWEEN NULL is two comparisons.
-    (
-        "EXPLAIN SELECT * FROM t WHERE a BETWEEN NULL AND 5",
-        "plan 2\n  a >= NULL via none\n  a <= 5 via LF i",
-    ),
-    // IN leaves its NULLs out.
-    (
-        "EXPLAIN SELECT * FROM t WHERE b IN ('it''s', NULL)",
-        "plan 1\n  b IN ('it''s') via FP",
-    ),
-];
-
-#[test]
-fn a_plan_tells_the_tests_and_what_serves_each(rt: HostRuntime) -> Result<(), Fail> {
-    tells(&rt, FOUR_ROWS, PLANS)
+fn numbers_of_a(alloc: Global) -> Result<Listed<Item>, Fail> {
+    let mut items = Listed::new(alloc);
+    items.push(Item::CountAll)?;
+    items.push(Item::Count(name("a")?))?;
+    items.push(Item::Sum(name("a")?))?;
+    items.push(Item::Max(name("a")?))?;
+    Ok(items)
 }
 
-const EMPTY: Lines = &[
-    ("CREATE TABLE t (x INT NULL)", "created"),
-    (
-        "SELECT COUNT(*), SUM(x), MIN(x) FROM t",
-        "rows 1\n  0,NULL,NULL",
-    ),
-    ("SELECT x FROM t", "rows 0"),
-];
-
 #[test]
-fn an_empty_table_has_aggregates_and_no_rows(rt: HostRuntime) -> Result<(), Fail> {
-    tells(&rt, &[], EMPTY)
+fn aggregates_leave_null_out(rt: HostRuntime) -> Result<(), Fail> {
+    let query = select(rt.alloc(), numbers_of_a(rt.alloc())?, None)?;
+    tells(
+        &rt,
+        rt.alloc(),
+        &query,
+        &four_rows(rt.alloc())?,
+        "4,3,5,2,;",
+    )
 }
 
-const NULLS: Lines = &[
-    ("CREATE TABLE t (x INT NULL)", "created"),
-    ("INSERT INTO t VALUES (1), (2), (NULL)", "inserted 3"),
-    ("SELECT x FROM t WHERE x <> 1", "rows 1\n  2"),
-    ("SELECT x FROM t WHERE NOT x <> 1", "rows 1\n  1"),
-    ("SELECT x FROM t WHERE x IS NULL", "rows 1\n  NULL"),
-    ("SELECT x FROM t WHERE x = NULL", "rows 0"),
-    ("SELECT x FROM t WHERE x NOT IN (1, NULL)", "rows 0"),
-];
-
 #[test]
-fn null_is_neither_equal_nor_unequal(rt: HostRuntime) -> Result<(), Fail> {
-    tells(&rt, &[], NULLS)
+fn aggregates_of_no_row_are_one_row(rt: HostRuntime) -> Result<(), Fail> {
+    let never = compare("a", Op::Gt, Value::Int(9))?;
+    let query = select(rt.alloc(), numbers_of_a(rt.alloc())?, Some(never))?;
+    tells(
+        &rt,
+        rt.alloc(),
+        &query,
+        &four_rows(rt.alloc())?,
+        "0,0,NULL,NULL,;",
+    )
 }
 
-const COMPARED: Lines = &[
-    ("CREATE TABLE t (a INT NULL, b INT NULL)", "created"),
-    ("CREATE CMP INDEX k ON t (a, b)", "created"),
-    (
-        "INSERT INTO t VALUES (1, 2), (2, 2), (3, 2), (NULL, 2)",
-        "inserted 4",
-    ),
-    ("SELECT a, b FROM t WHERE a < b", "rows 1\n  1,2"),
-    ("SELECT a, b FROM t WHERE a = b", "rows 1\n  2,2"),
-    ("SELECT a, b FROM t WHERE a > b", "rows 1\n  3,2"),
-    ("SELECT a, b FROM t WHERE a <> b", "rows 2\n  1,2\n  3,2"),
-    (
-        "EXPLAIN SELECT a FROM t WHERE b > a",
-        "plan 1\n  b > a via CMP k",
-    ),
-];
+fn a_and_least_b(alloc: Global) -> Result<Listed<Item>, Fail> {
+    let mut items = Listed::new(alloc);
+    items.push(Item::Plain(name("a")?))?;
+    items.push(Item::CountAll)?;
+    items.push(Item::Min(name("b")?))?;
+    Ok(items)
+}
 
 #[test]
-fn two_columns_are_compared_row_by_row(rt: HostRuntime) -> Result<(), Fail> {
-    tells(&rt, &[], COMPARED)
+fn groups_come_in_the_order_of_their_keys(rt: HostRuntime) -> Result<(), Fail> {
+    let mut query = select(rt.alloc(), a_and_least_b(rt.alloc())?, None)?;
+    query.group.push(name("a")?)?;
+    let tables = four_rows(rt.alloc())?;
+    tells(&rt, rt.alloc(), &query, &tables, "NULL,1,y,;1,1,x,;2,2,x,;")
+}
+
+#[test]
+fn groups_are_ordered_as_asked(rt: HostRuntime) -> Result<(), Fail> {
+    let mut query = select(rt.alloc(), a_and_least_b(rt.alloc())?, None)?;
+    query.group.push(name("a")?)?;
+    query.order = ordered(rt.alloc(), "a", true)?;
+    let tables = four_rows(rt.alloc())?;
+    tells(&rt, rt.alloc(), &query, &tables, "2,2,x,;1,1,x,;NULL,1,y,;")
+}
+
+#[test]
+fn ascending_puts_null_first(rt: HostRuntime) -> Result<(), Fail> {
+    let mut query = all_where(rt.alloc(), None)?;
+    query.order = ordered(rt.alloc(), "a", false)?;
+    let tables = four_rows(rt.alloc())?;
+    tells(
+        &rt,
+        rt.alloc(),
+        &query,
+        &tables,
+        "NULL,y,;1,x,;2,NULL,;2,x,;",
+    )
+}
+
+#[test]
+fn descending_puts_null_last_and_keeps_ties(rt: HostRuntime) -> Result<(), Fail> {
+    let mut query = all_where(rt.alloc(), None)?;
+    query.order = ordered(rt.alloc(), "a", true)?;
+    let tables = four_rows(rt.alloc())?;
+    tells(
+        &rt,
+        rt.alloc(),
+        &query,
+        &tables,
+        "2,NULL,;2,x,;1,x,;NULL,y,;",
+    )
+}
+
+#[test]
+fn a_plan_without_a_condition_reads_all(rt: HostRuntime) -> Result<(), Fail> {
+    plans(
+        &rt,
+        rt.alloc(),
+        &four_rows(rt.alloc())?,
+        None,
+        "all via existence;",
+    )
+}
+
+#[test]
+fn a_plan_carries_not_and_names_what_serves(rt: HostRuntime) -> Result<(), Fail> {
+    let null_b = Cond::Test(Test::Null {
+        column: name("b")?,
+        negated: false,
+    });
+    let one = either(rt.alloc(), compare("a", Op::Eq, Value::Int(2))?, null_b)?;
+    let cond = Some(not_so(rt.alloc(), one)?);
+    let tables = with_low_fast(rt.alloc())?;
+    plans(
+        &rt,
+        rt.alloc(),
+        &tables,
+        cond,
+        "a <> 2 via LF i;b IS NOT NULL via FP;",
+    )
+}
+
+#[test]
+fn a_plan_of_between_null_is_two_comparisons(rt: HostRuntime) -> Result<(), Fail> {
+    let cond = Some(Cond::Test(Test::Between {
+        column: name("a")?,
+        negated: false,
+        low: Value::Null,
+        high: Value::Int(5),
+    }));
+    let tables = with_low_fast(rt.alloc())?;
+    plans(
+        &rt,
+        rt.alloc(),
+        &tables,
+        cond,
+        "a >= NULL via none;a <= 5 via LF i;",
+    )
+}
+
+#[test]
+fn a_plan_of_in_leaves_its_nulls_out(rt: HostRuntime) -> Result<(), Fail> {
+    let mut values = Listed::new(rt.alloc());
+    values.push(text("it's")?)?;
+    values.push(Value::Null)?;
+    let cond = Some(Cond::Test(Test::OneOf {
+        column: name("b")?,
+        negated: false,
+        values,
+    }));
+    let tables = with_low_fast(rt.alloc())?;
+    plans(&rt, rt.alloc(), &tables, cond, "b IN ('it''s') via FP;")
 }

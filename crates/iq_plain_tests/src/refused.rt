@@ -1,65 +1,154 @@
 //! The first refusals of statements.
+ghost use Rattle.std.specs.Prelude.{IfOk};
 ghost use Rattle.iq_plain_tables.specs.Plain.{HasFewParts};
 
-use crate::replies::{FOUR_ROWS, refused, shows, statement, tables_of};
-use iq_base::Refusal;
+use crate::made::{all_where, compare, four_rows, name, new_index, refuses, same, select, text};
+use iq_ast::{Change, Item, Op, Statement, Write};
+use iq_base::{FieldCause, IndexKind, Listed, Refusal, Value};
 use iq_plain_refusals::{room_refusal, statement_refusal};
-use std::process::Abort;
+use std::alloc::Global;
 use std::test::Fail;
 
-/// Statements over four rows, and why each is refused for its names and values, and for want of room: `-` where it isn't.
-const REFUSALS: &[(&str, &str, &str)] = &[
-    // A text in a column of numbers is a bad row.
-    (
-        "INSERT INTO t VALUES ('1', NULL)",
-        "refused BadRow 1 1 NotNumber",
-        "-",
-    ),
-    // A query of no table, a name that is no column, a text beside numbers, a column beside a count.
-    ("SELECT * FROM u", "refused NoTable u", "-"),
-    ("SELECT * FROM t WHERE c = 1", "refused NoColumn c", "-"),
-    (
-        "SELECT * FROM t WHERE a = '1'",
-        "refused TypeMismatch a",
-        "-",
-    ),
-    ("SELECT COUNT(*), b FROM t", "refused NotGrouped b", "-"),
-    // A good query.
-    ("SELECT * FROM t WHERE a = 1", "-", "-"),
-    // A text of six letters, where five find room, is refused as a value and is no want of room.
-    ("UPDATE t SET b = 'abcdef'", "refused TextTooLong b", "-"),
-    // An index that doesn't fit is refused for its column, and one that fits is not.
-    ("CREATE HNG INDEX i ON t (b)", "-", "refused IndexUnfit b"),
-    ("CREATE LF INDEX i ON t (b)", "-", "-"),
-    // An index or a table that isn't there is not dropped, and one that is there is not created.
-    ("DROP INDEX t.i", "refused NoIndex i", "-"),
-    ("DROP TABLE u", "refused NoTable u", "-"),
-    ("CREATE TABLE t (x INT NULL)", "refused TableExists t", "-"),
-];
+#[test]
+fn a_text_in_a_column_of_numbers_is_a_bad_row(rt: HostRuntime) -> Result<(), Fail> {
+    let alloc = rt.alloc();
+    let tables = four_rows(alloc)?;
+    let mut row = Listed::new(alloc);
+    row.push(text("1")?)?;
+    row.push(Value::Null)?;
+    let mut rows = Listed::new(alloc);
+    rows.push(row)?;
+    let insert = Statement::Write(Write::Insert {
+        table: name("t")?,
+        rows,
+    });
+    let found = statement_refusal(alloc, &insert, tables.as_slice())?;
+    let bad = Refusal::BadRow {
+        row: 1,
+        field: 1,
+        cause: FieldCause::NotNumber,
+    };
+    same(&rt, &found, &Some(bad))
+}
 
 #[test]
-fn names_and_values_are_refused_before_room(rt: HostRuntime) -> Result<(), Fail> {
-    let tables = tables_of(rt.alloc(), FOUR_ROWS)?;
-    for (text, named, room) in REFUSALS {
-        let statement = statement(rt.alloc(), text)?;
-        let found = statement_refusal(rt.alloc(), &statement, tables.as_slice())?;
-        refuses(&rt, found, text, named)?;
-        let found = room_refusal(rt.alloc(), &statement, tables.as_slice())?;
-        refuses(&rt, found, text, room)?;
-    }
+fn a_query_of_no_table_is_refused(rt: HostRuntime) -> Result<(), Fail> {
+    let mut query = all_where(rt.alloc(), None)?;
+    query.table = name("u")?;
+    refuses(
+        &rt,
+        rt.alloc(),
+        query,
+        Refusal::NoTable { name: name("u")? },
+    )
+}
+
+#[test]
+fn a_name_that_is_no_column_is_refused(rt: HostRuntime) -> Result<(), Fail> {
+    let query = all_where(rt.alloc(), Some(compare("c", Op::Eq, Value::Int(1))?))?;
+    refuses(
+        &rt,
+        rt.alloc(),
+        query,
+        Refusal::NoColumn { name: name("c")? },
+    )
+}
+
+#[test]
+fn a_text_beside_numbers_is_refused(rt: HostRuntime) -> Result<(), Fail> {
+    let query = all_where(rt.alloc(), Some(compare("a", Op::Eq, text("1")?)?))?;
+    refuses(
+        &rt,
+        rt.alloc(),
+        query,
+        Refusal::TypeMismatch { column: name("a")? },
+    )
+}
+
+#[test]
+fn a_column_beside_a_count_is_refused(rt: HostRuntime) -> Result<(), Fail> {
+    let mut items = Listed::new(rt.alloc());
+    items.push(Item::CountAll)?;
+    items.push(Item::Plain(name("b")?))?;
+    let query = select(rt.alloc(), items, None)?;
+    refuses(
+        &rt,
+        rt.alloc(),
+        query,
+        Refusal::NotGrouped { column: name("b")? },
+    )
+}
+
+#[test]
+fn a_good_query_is_not_refused(rt: HostRuntime) -> Result<(), Fail> {
+    let query = all_where(rt.alloc(), Some(compare("a", Op::Eq, Value::Int(1))?))?;
+    let tables = four_rows(rt.alloc())?;
+    let found = statement_refusal(rt.alloc(), &Statement::Select(query), tables.as_slice())?;
+    assert!(rt; found.is_none());
     Ok(())
 }
 
-/// Compares a refusal, as it is printed, or that there is none.
-fn refuses<R: Abort + AllocGlobal>(
-    rt: &R,
-    found: Option<Refusal>,
-    text: &str,
-    want: &str,
-) -> Result<(), Fail> {
-    match found {
-        None => assert_eq!(rt; "-", want, "{text}"),
-        Some(cause) => shows(rt, refused(cause)?, text, want)?,
-    }
+/// UPDATE t SET b = a text of six letters, where five find room
+fn long_update(alloc: Global) -> Result<Statement, Fail>
+    ensures { IfOk result HasFewParts }
+{
+    let mut changes = Listed::new(alloc);
+    changes.push(Change {
+        column: name("b")?,
+        value: text("abcdef")?,
+    })?;
+    Ok(Statement::Write(Write::Update {
+        table: name("t")?,
+        changes,
+        cond: None,
+    }))
+}
+
+#[test]
+fn a_long_text_of_set_is_refused(rt: HostRuntime) -> Result<(), Fail> {
+    let tables = four_rows(rt.alloc())?;
+    let update = long_update(rt.alloc())?;
+    let found = statement_refusal(rt.alloc(), &update, tables.as_slice())?;
+    let column = name("b")?;
+    same(&rt, &found, &Some(Refusal::TextTooLong { column }))
+}
+
+#[test]
+fn a_long_text_of_set_is_no_want_of_room(rt: HostRuntime) -> Result<(), Fail> {
+    let tables = four_rows(rt.alloc())?;
+    let update = long_update(rt.alloc())?;
+    assert!(rt; room_refusal(rt.alloc(), &update, tables.as_slice())?.is_none());
     Ok(())
+}
+
+#[test]
+fn an_index_that_does_not_fit_is_refused_for_its_column(rt: HostRuntime) -> Result<(), Fail> {
+    let tables = four_rows(rt.alloc())?;
+    let unfit = Statement::Write(new_index(IndexKind::Hng, "b")?);
+    assert!(rt; statement_refusal(rt.alloc(), &unfit, tables.as_slice())?.is_none());
+    let found = room_refusal(rt.alloc(), &unfit, tables.as_slice())?;
+    same(
+        &rt,
+        &found,
+        &Some(Refusal::IndexUnfit { column: name("b")? }),
+    )
+}
+
+#[test]
+fn an_index_that_fits_is_not_refused(rt: HostRuntime) -> Result<(), Fail> {
+    let tables = four_rows(rt.alloc())?;
+    let low_fast = Statement::Write(new_index(IndexKind::Lf, "b")?);
+    assert!(rt; room_refusal(rt.alloc(), &low_fast, tables.as_slice())?.is_none());
+    Ok(())
+}
+
+#[test]
+fn an_index_that_is_not_there_is_not_dropped(rt: HostRuntime) -> Result<(), Fail> {
+    let tables = four_rows(rt.alloc())?;
+    let drop = Statement::Write(Write::DropIndex {
+        table: name("t")?,
+        name: name("i")?,
+    });
+    let found = statement_refusal(rt.alloc(), &drop, tables.as_slice())?;
+    same(&rt, &found, &Some(Refusal::NoIndex { name: name("i")? }))
 }
