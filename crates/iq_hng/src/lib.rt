@@ -9,6 +9,7 @@ mod hng;
 mod keys;
 mod planes;
 mod scanning;
+mod summing;
 
 pub use comparing::Compared;
 pub use hng::{Hng, Width};

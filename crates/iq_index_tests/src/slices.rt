@@ -133,6 +133,69 @@ fn numbers_in_pieces_are_compared_as_plain_lists(rt: HostRuntime) -> Result<(), 
     Ok(())
 }
 
+/// The sum of the numbers of which a comparison is true, by the plain list.
+fn plain_sum(slots: u32, op: Op, number: i64) -> i128 {
+    let mut sum = 0_i128;
+    for i in 0..slots {
+        let value = value(i);
+        if Side::True.has(comparison(op, &value, &Value::Int(number))) {
+            sum = match value {
+                Value::Int(number) => sum.saturating_add(i128::from(number)),
+                Value::Null | Value::Text(_) => sum,
+            };
+        }
+    }
+    sum
+}
+
+/// The sum of the numbers of some rows, by the index.
+fn sum(
+    rt: &impl Abort,
+    alloc: Global,
+    hng: &Hng,
+    store: &mut MemoryPages,
+    rows: &Bitmap,
+) -> Result<i128, PageFault> {
+    assert!(rt; hng.has_room(0) && rows.len() == hng.slots);
+    hng.sum(alloc, store, rows)
+}
+
+/// Whether the sums of the numbers below another one and above it are those of the plain list.
+fn sums_agree(
+    rt: &impl Abort,
+    alloc: Global,
+    hng: &Hng,
+    store: &mut MemoryPages,
+    number: i64,
+) -> Result<bool, PageFault> {
+    let rows = compared(rt, alloc, hng, store, number)?;
+    let less = sum(rt, alloc, hng, store, &rows.less)?;
+    let greater = sum(rt, alloc, hng, store, &rows.greater)?;
+    Ok(
+        less == plain_sum(hng.slots, Op::Lt, number)
+            && greater == plain_sum(hng.slots, Op::Gt, number),
+    )
+}
+
+#[test]
+fn numbers_are_summed_as_plain_lists(rt: HostRuntime) -> Result<(), Fail> {
+    let alloc = rt.alloc();
+    for (width, kind) in [(Width::Int, Kind::Int), (Width::Big, Kind::Big)] {
+        let mut store = MemoryPages::new(alloc, Vec::new(alloc));
+        let mut hng = Hng {
+            object: OBJECT,
+            slots: 0,
+            width,
+        };
+        let numbers = cells(alloc, kind, 0, 8070)?;
+        put(&rt, alloc, &mut hng, &mut store, &numbers)?;
+        for number in OTHERS {
+            assert!(rt; sums_agree(&rt, alloc, &hng, &mut store, number)?);
+        }
+    }
+    Ok(())
+}
+
 #[test]
 fn a_plane_that_lacks_is_named(rt: HostRuntime) -> Result<(), Fail> {
     let alloc = rt.alloc();
