@@ -2,9 +2,13 @@
 #![tactic(auto)]
 
 #[cfg(test)]
+mod checks;
+#[cfg(test)]
 mod columns;
 #[cfg(test)]
 mod fields;
+#[cfg(test)]
+mod made;
 #[cfg(test)]
 mod numbers;
 #[cfg(test)]

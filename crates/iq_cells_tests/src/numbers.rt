@@ -1,47 +1,90 @@
 //! Numberings of a column's values.
-use iq_base::{Kind, Value};
+ghost use Rattle.std.specs.Prelude.{◌++◌, IfOk};
+ghost use Rattle.iq_numbering.specs.Numbers.{AreDistinct};
+
+use crate::checks::{same, same_codes};
+use crate::made::{Cell, at, push, value};
+use iq_base::{Kind, NoMemory};
 use iq_cells::Cells;
 use iq_numbering::{new_values, number};
 use std::alloc::Global;
+use std::process::Abort;
 use std::test::Fail;
 
-fn ints(alloc: Global, numbers: &[Option<i64>]) -> Result<Cells, Fail> {
+/// The codes of a column's values, how many of these are new, and the new ones.
+#[derive(Drop)]
+struct Numbering {
+    codes: Vec<u32>,
+    count: usize,
+    new: Cells,
+}
+
+/// Numbers the values of a short column behind known ones of its kind.
+fn numbered(alloc: Global, known: &Cells, values: &Cells) -> Result<Numbering, NoMemory>
+    requires { AreDistinct known.now.values }
+    ensures { IfOk result (λ r. AreDistinct (known.now.values ++ r.new.values)) }
+{
+    if known.kind() != values.kind() || known.len() > 9 || values.len() > 9 {
+        return Err(NoMemory);
+    }
+    let found = number(alloc, known, values)?;
+    if found.codes.len() != values.len() {
+        return Err(NoMemory);
+    }
+    let new = new_values(alloc, known.len(), found.new, values, &found.codes)?;
+    Ok(Numbering {
+        codes: found.codes,
+        count: found.new,
+        new,
+    })
+}
+
+/// Numbers the values of a column, and then those of another behind them.
+fn twice(alloc: Global, first: &Cells, second: &Cells) -> Result<(Numbering, Numbering), NoMemory> {
+    let one = numbered(alloc, &Cells::new(alloc, first.kind()), first)?;
+    let two = numbered(alloc, &one.new, second)?;
+    Ok((one, two))
+}
+
+fn ints(alloc: Global, cells: &[Cell]) -> Result<Cells, NoMemory> {
     let mut column = Cells::new(alloc, Kind::Int);
-    for number in numbers {
-        match number {
-            Some(number) => column.push_number(*number).map_err(|_| "no INT")?,
-            None => column.push_null()?,
-        }
+    for cell in cells {
+        push(&mut column, cell)?;
     }
     Ok(column)
 }
 
+const FIRST: [Cell; 7] = [
+    Cell::Int(7),
+    Cell::Null,
+    Cell::Int(7),
+    Cell::Int(-1),
+    Cell::Null,
+    Cell::Int(0),
+    Cell::Int(-1),
+];
+
+const NEW: [Cell; 4] = [Cell::Int(7), Cell::Null, Cell::Int(-1), Cell::Int(0)];
+
+const SECOND: [Cell; 4] = [Cell::Int(0), Cell::Int(8), Cell::Null, Cell::Int(8)];
+
+const NEWER: [Cell; 1] = [Cell::Int(8)];
+
+fn is_numbered(rt: &impl Abort, found: &Numbering, codes: &[u32], new: &[Cell]) {
+    same_codes(rt, &found.codes, codes, codes.len());
+    same(rt, &found.count, &new.len(), codes.len());
+    same(rt, &found.new.len(), &new.len(), codes.len());
+    for (place, cell) in new.iter().enumerate() {
+        same(rt, &at(&found.new, place), &Some(value(cell)), place);
+    }
+}
+
 #[test]
 fn values_are_numbered_as_they_first_appear(rt: HostRuntime) -> Result<(), Fail> {
-    let none = Cells::new(rt.alloc(), Kind::Int);
-    let values = ints(
-        rt.alloc(),
-        &[Some(7), None, Some(7), Some(-1), None, Some(0), Some(-1)],
-    )?;
-    assert!(rt; values.kind() == Kind::Int && values.len() == 7);
-    let first = number(rt.alloc(), &none, &values)?;
-    assert_eq!(rt; first.codes.as_slice(), &[0, 1, 0, 2, 1, 3, 2][..]);
-    assert!(rt; first.new == 4 && first.codes.len() == 7);
-    let new = new_values(rt.alloc(), 0, first.new, &values, &first.codes)?;
-    assert!(rt; new.kind() == Kind::Int && new.len() == 4);
-    for (i, value) in [Value::Int(7), Value::Null, Value::Int(-1), Value::Int(0)]
-        .iter()
-        .enumerate()
-    {
-        assert_eq!(rt; new.get(i), value.again(), "{i}");
-    }
-    let more = ints(rt.alloc(), &[Some(0), Some(8), None, Some(8)])?;
-    assert!(rt; more.kind() == Kind::Int && more.len() == 4);
-    let second = number(rt.alloc(), &new, &more)?;
-    assert_eq!(rt; second.codes.as_slice(), &[3, 4, 1, 4][..]);
-    assert!(rt; second.new == 1 && second.codes.len() == 4);
-    let newer = new_values(rt.alloc(), new.len(), second.new, &more, &second.codes)?;
-    assert!(rt; newer.len() == 1);
-    assert_eq!(rt; newer.get(0), Value::Int(8));
+    let first = ints(rt.alloc(), &FIRST)?;
+    let second = ints(rt.alloc(), &SECOND)?;
+    let (one, two) = twice(rt.alloc(), &first, &second)?;
+    is_numbered(&rt, &one, &[0, 1, 0, 2, 1, 3, 2], &NEW);
+    is_numbered(&rt, &two, &[3, 4, 1, 4], &NEWER);
     Ok(())
 }

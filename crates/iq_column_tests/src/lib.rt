@@ -4,9 +4,12 @@
 
 #[cfg(test)]
 mod bad_pages;
+#[cfg(test)]
 mod bitmaps;
 #[cfg(test)]
 mod calls;
+#[cfg(test)]
+mod checks;
 #[cfg(test)]
 mod lists;
 #[cfg(test)]

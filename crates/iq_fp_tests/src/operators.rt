@@ -1,13 +1,13 @@
 //! Each test of a row on values and NULL, both sides, beside a plain evaluation row by row.
-use crate::columns::{CODES, VALUES, column, ints, scanned, sure};
+use crate::checks::same;
+use crate::columns::{CODES, NO_CALL, VALUES, column, ints, name, scanned, sure};
 use iq_ast::{Op, Test};
-use iq_base::{Kind, Listed, Name, Value};
+use iq_base::{Kind, Listed, Value};
 use iq_fp::Fp;
-use iq_pages::MemoryPages;
+use iq_pages::{MemoryPages, PageFault};
 use iq_truth::{Side, Truth, negated, truth_on};
 use std::alloc::Global;
 use std::process::Abort;
-use std::test::Fail;
 
 const OPS: [Op; 6] = [Op::Eq, Op::Ne, Op::Lt, Op::Le, Op::Gt, Op::Ge];
 
@@ -72,21 +72,34 @@ fn value(number: Option<i64>) -> Value {
     }
 }
 
-fn name() -> Result<Name, Fail> {
-    Ok(Name::of("c").ok_or("too long")?)
+/// What is said of each row.
+type Said = [Option<bool>; 9];
+
+/// A column of the rows, and its pages.
+#[derive(Drop)]
+struct Made {
+    fp: Fp,
+    store: MemoryPages,
 }
 
-// Which rows a scan finds.
+fn of_rows(alloc: Global) -> Result<Made, PageFault> {
+    let mut store = sure(alloc);
+    let cells = ints(alloc, Kind::Int, &ROWS)?;
+    let fp = column(alloc, &mut store, (CODES, VALUES), &cells)?;
+    Ok(Made { fp, store })
+}
+
+/// Which rows a scan finds.
 fn on_side(
-    rt: &impl Abort,
     alloc: Global,
-    fp: &Fp,
-    store: &mut MemoryPages,
+    made: &mut Made,
     test: &Test,
     side: Side,
-) -> Result<[bool; 9], Fail> {
-    let found = scanned(alloc, fp, store, test, side)?;
-    assert!(rt; found.len() == 9);
+) -> Result<[bool; 9], PageFault> {
+    let found = scanned(alloc, &made.fp, &mut made.store, test, side)?;
+    if found.len() != 9 {
+        return Err(NO_CALL);
+    }
     let mut rows = [false; 9];
     for i in 0..9 {
         rows[i] = found.get(i as u32);
@@ -94,8 +107,24 @@ fn on_side(
     Ok(rows)
 }
 
-// What the test says of each row's value.
-fn spoken(test: &Test) -> [Option<bool>; 9] {
+/// What a scan of each side says of each row; a row may be on one side alone.
+fn on_sides(alloc: Global, made: &mut Made, test: &Test) -> Result<Said, PageFault> {
+    let on = on_side(alloc, made, test, Side::True)?;
+    let off = on_side(alloc, made, test, Side::False)?;
+    let mut rows = [None; 9];
+    for i in 0..9 {
+        rows[i] = match (on[i], off[i]) {
+            (true, false) => Some(true),
+            (false, true) => Some(false),
+            (false, false) => None,
+            (true, true) => return Err(NO_CALL),
+        };
+    }
+    Ok(rows)
+}
+
+/// What the test says of each row's value.
+fn spoken(test: &Test) -> Said {
     let mut rows = [None; 9];
     for i in 0..9 {
         rows[i] = match truth_on(test, &value(ROWS[i])) {
@@ -107,75 +136,50 @@ fn spoken(test: &Test) -> [Option<bool>; 9] {
     rows
 }
 
-fn rows_where(want: [Option<bool>; 9], on: bool) -> [bool; 9] {
-    let mut rows = [false; 9];
-    for i in 0..9 {
-        rows[i] = want[i] == Some(on);
-    }
-    rows
-}
-
-// Both sides of a test, and of its negation, beside what it ought to say of each row.
-fn assert_sides(
+/// Asserts what a test says of each row, and both sides of it and of its negation.
+fn says(
     rt: &impl Abort,
     alloc: Global,
-    fp: &Fp,
-    store: &mut MemoryPages,
+    made: &mut Made,
     test: Test,
-    want: [Option<bool>; 9],
-) -> Result<(), Fail> {
-    let on = rows_where(want, true);
-    let off = rows_where(want, false);
-    assert!(rt; spoken(&test) == want);
-    assert!(rt; on_side(rt, alloc, fp, store, &test, Side::True)? == on);
-    assert!(rt; on_side(rt, alloc, fp, store, &test, Side::False)? == off);
+    want: &Said,
+) -> Result<(), PageFault> {
+    same(rt, &spoken(&test), want, 0);
+    same(rt, &on_sides(alloc, made, &test)?, want, 1);
     let test = negated(test);
-    assert!(rt; on_side(rt, alloc, fp, store, &test, Side::True)? == off);
-    assert!(rt; on_side(rt, alloc, fp, store, &test, Side::False)? == on);
+    let mut other = *want;
+    for row in other.iter_mut() {
+        *row = not(*row);
+    }
+    same(rt, &on_sides(alloc, made, &test)?, &other, 2);
     Ok(())
 }
 
-fn assert_comparison(
-    rt: &impl Abort,
-    alloc: Global,
-    fp: &Fp,
-    store: &mut MemoryPages,
-    op: Op,
-    literal: Option<i64>,
-) -> Result<(), Fail> {
-    let test = Test::Compare {
+fn comparison(op: Op, literal: Option<i64>) -> Result<Test, PageFault> {
+    Ok(Test::Compare {
         column: name()?,
         op,
         value: value(literal),
-    };
-    let mut want = [None; 9];
-    for i in 0..9 {
-        want[i] = compared(op, ROWS[i], literal);
-    }
-    assert_sides(rt, alloc, fp, store, test, want)
+    })
 }
 
 #[test]
-fn a_comparison_with_a_value(rt: HostRuntime) -> Result<(), Fail> {
-    let mut store = sure(rt.alloc());
-    let cells = ints(rt.alloc(), Kind::Int, &ROWS)?;
-    let fp = column(&rt, rt.alloc(), &mut store, (CODES, VALUES), &cells)?;
+fn a_comparison_with_a_value(rt: HostRuntime) -> Result<(), PageFault> {
+    let mut made = of_rows(rt.alloc())?;
     for op in OPS {
         for literal in LITERALS {
-            assert_comparison(&rt, rt.alloc(), &fp, &mut store, op, literal)?;
+            let mut want = [None; 9];
+            for i in 0..9 {
+                want[i] = compared(op, ROWS[i], literal);
+            }
+            says(&rt, rt.alloc(), &mut made, comparison(op, literal)?, &want)?;
         }
     }
     Ok(())
 }
 
-fn assert_range(
-    rt: &impl Abort,
-    alloc: Global,
-    fp: &Fp,
-    store: &mut MemoryPages,
-    low: Option<i64>,
-    high: Option<i64>,
-) -> Result<(), Fail> {
+/// A range, and what it says of each row.
+fn range(low: Option<i64>, high: Option<i64>) -> Result<(Test, Said), PageFault> {
     let test = Test::Between {
         column: name()?,
         negated: false,
@@ -189,17 +193,11 @@ fn assert_range(
             compared(Op::Le, ROWS[i], high),
         );
     }
-    assert_sides(rt, alloc, fp, store, test, want)
+    Ok((test, want))
 }
 
-fn assert_list(
-    rt: &impl Abort,
-    alloc: Global,
-    fp: &Fp,
-    store: &mut MemoryPages,
-    first: Option<i64>,
-    second: Option<i64>,
-) -> Result<(), Fail> {
+/// NOT IN of two values, and what it says of each row.
+fn list(alloc: Global, first: Option<i64>, second: Option<i64>) -> Result<(Test, Said), PageFault> {
     let mut values = Listed::new(alloc);
     values.push(value(first))?;
     values.push(value(second))?;
@@ -215,28 +213,26 @@ fn assert_list(
             compared(Op::Eq, ROWS[i], second),
         ));
     }
-    assert_sides(rt, alloc, fp, store, test, want)
+    Ok((test, want))
 }
 
 #[test]
-fn a_range_and_a_list(rt: HostRuntime) -> Result<(), Fail> {
-    let mut store = sure(rt.alloc());
-    let cells = ints(rt.alloc(), Kind::Int, &ROWS)?;
-    let fp = column(&rt, rt.alloc(), &mut store, (CODES, VALUES), &cells)?;
+fn a_range_and_a_list(rt: HostRuntime) -> Result<(), PageFault> {
+    let mut made = of_rows(rt.alloc())?;
     for low in LITERALS {
         for high in LITERALS {
-            assert_range(&rt, rt.alloc(), &fp, &mut store, low, high)?;
-            assert_list(&rt, rt.alloc(), &fp, &mut store, low, high)?;
+            let (test, want) = range(low, high)?;
+            says(&rt, rt.alloc(), &mut made, test, &want)?;
+            let (test, want) = list(rt.alloc(), low, high)?;
+            says(&rt, rt.alloc(), &mut made, test, &want)?;
         }
     }
     Ok(())
 }
 
 #[test]
-fn null_and_a_list_of_nothing(rt: HostRuntime) -> Result<(), Fail> {
-    let mut store = sure(rt.alloc());
-    let cells = ints(rt.alloc(), Kind::Int, &ROWS)?;
-    let fp = column(&rt, rt.alloc(), &mut store, (CODES, VALUES), &cells)?;
+fn null_and_a_list_of_nothing(rt: HostRuntime) -> Result<(), PageFault> {
+    let mut made = of_rows(rt.alloc())?;
     let mut null = [None; 9];
     for i in 0..9 {
         null[i] = Some(ROWS[i].is_none());
@@ -250,6 +246,6 @@ fn null_and_a_list_of_nothing(rt: HostRuntime) -> Result<(), Fail> {
         negated: false,
         values: Listed::new(rt.alloc()),
     };
-    assert_sides(&rt, rt.alloc(), &fp, &mut store, is_null, null)?;
-    assert_sides(&rt, rt.alloc(), &fp, &mut store, none, [Some(false); 9])
+    says(&rt, rt.alloc(), &mut made, is_null, &null)?;
+    says(&rt, rt.alloc(), &mut made, none, &[Some(false); 9])
 }

@@ -1,111 +1,138 @@
 //! Columns around the numbers of distinct values at which codes become wider.
+use crate::checks::same;
 use crate::columns::{
-    CODES, VALUES, assert_same, chosen, ints, numbers, put, scanned, sure, value_at, value_of,
-    whole,
+    CODES, VALUES, chosen, differ, ints, name, numbers, push_numbers, put, scanned, sure, value_at,
+    value_of, whole,
 };
 use iq_ast::{Op, Test};
-use iq_base::{Kind, Name, Value};
+use iq_base::{Kind, Value};
 use iq_fp::{Fp, code_bytes};
-use iq_pages::MemoryPages;
+use iq_pages::{MemoryPages, PageFault};
 use iq_truth::Side;
 use std::alloc::Global;
 use std::process::Abort;
-use std::test::Fail;
 
-// A column of NULL, of so many numbers from 0 on, of all of these once more, and of NULL.
-fn filled(rt: &impl Abort, alloc: Global, store: &mut MemoryPages, count: i64) -> Result<Fp, Fail> {
+/// A column of NULL, of so many numbers from 0 on, of all of these once more, and of NULL.
+fn filled(alloc: Global, store: &mut MemoryPages, count: i64) -> Result<Fp, PageFault> {
     let mut fp = Fp::empty(CODES, VALUES, Kind::Int);
     let null = ints(alloc, Kind::Int, &[None])?;
     let all = numbers(alloc, Kind::Int, 0, count)?;
-    put(rt, alloc, &mut fp, store, &null)?;
-    put(rt, alloc, &mut fp, store, &all)?;
-    put(rt, alloc, &mut fp, store, &all)?;
-    put(rt, alloc, &mut fp, store, &null)?;
+    put(alloc, &mut fp, store, &null)?;
+    put(alloc, &mut fp, store, &all)?;
+    put(alloc, &mut fp, store, &all)?;
+    put(alloc, &mut fp, store, &null)?;
     Ok(fp)
 }
 
-// A row of it, by itself and among all.
-fn assert_row(
+/// A row by itself and among all, and how many rows there are.
+type Found = (Value, Option<Value>, usize);
+
+fn row_of(alloc: Global, fp: &Fp, store: &mut MemoryPages, row: u32) -> Result<Found, PageFault> {
+    let got = whole(alloc, fp, store)?;
+    let alone = value_of(fp, store, row)?;
+    Ok((alone, value_at(&got, row as usize), got.len()))
+}
+
+/// The first row and the last are NULL; the numbers stand between, each from 0 on, twice.
+fn has_rows(
     rt: &impl Abort,
     alloc: Global,
     fp: &Fp,
     store: &mut MemoryPages,
-    row: u32,
-    want: &Value,
-) -> Result<(), Fail> {
-    let got = whole(alloc, fp, store)?;
-    assert!(rt; got.len() == fp.slots as usize);
-    assert!(rt; value_of(rt, fp, store, row)? == want.again(), "row {row}");
-    assert!(rt;
-        value_at(rt, &got, row as usize) == want.again(),
-        "row {row}"
-    );
+    count: i64,
+) -> Result<(), PageFault> {
+    let end = fp.slots;
+    let rows = [
+        (0, None),
+        (end.saturating_sub(1), None),
+        (1, Some(0)),
+        (end / 2, Some(0)),
+        (end.saturating_sub(2), Some(count.saturating_sub(1))),
+    ];
+    for (row, number) in rows {
+        let found = row_of(alloc, fp, store, row)?;
+        let wanted = (value(number), Some(value(number)), end as usize);
+        same(rt, &found, &wanted, row as usize);
+    }
     Ok(())
 }
 
-// How many rows are at least a number, and how many below it.
-fn assert_found(
-    rt: &impl Abort,
+fn value(number: Option<i64>) -> Value {
+    match number {
+        None => Value::Null,
+        Some(number) => Value::Int(number),
+    }
+}
+
+/// How many rows are at least a number, how many below it, and how many values those rows have.
+fn found(
     alloc: Global,
     fp: &Fp,
     store: &mut MemoryPages,
     least: i64,
-    want: (u32, u32),
-) -> Result<(), Fail> {
+) -> Result<(u32, u32, usize), PageFault> {
     let test = Test::Compare {
-        column: Name::of("c").ok_or("too long")?,
+        column: name()?,
         op: Op::Ge,
         value: Value::Int(least),
     };
     let found = scanned(alloc, fp, store, &test, Side::True)?;
     let others = scanned(alloc, fp, store, &test, Side::False)?;
-    assert!(rt; (found.count(), others.count()) == want);
-    let values = chosen(rt, alloc, fp, store, &found)?;
-    assert!(rt; values.len() == want.0 as usize);
+    let values = chosen(alloc, fp, store, &found)?;
+    Ok((found.count(), others.count(), values.len()))
+}
+
+/// So many numbers; how many distinct values with NULL, and how many bytes a code has.
+const CASES: [(i64, u32, usize); 4] = [
+    (255, 256, 1),
+    (256, 257, 2),
+    (65_535, 65_536, 2),
+    (65_536, 65_537, 3),
+];
+
+fn comes_back(
+    rt: &impl Abort,
+    alloc: Global,
+    case: &(i64, u32, usize),
+    row: usize,
+) -> Result<(), PageFault> {
+    let (count, distinct, bytes) = *case;
+    let mut store = sure(alloc);
+    let fp = filled(alloc, &mut store, count)?;
+    let form = (fp.distinct, code_bytes(fp.distinct));
+    same(rt, &form, &(distinct, bytes), row);
+    has_rows(rt, alloc, &fp, &mut store, count)?;
+    let found = found(alloc, &fp, &mut store, count.saturating_sub(3))?;
+    let below = distinct.saturating_mul(2).saturating_sub(8);
+    same(rt, &found, &(6, below, 6), row);
     Ok(())
 }
 
 #[test]
-fn values_come_back_in_each_form(rt: HostRuntime) -> Result<(), Fail> {
-    // So many numbers; how many distinct values with NULL, and how many bytes a code has.
-    let cases: [(i64, u32, usize); 4] = [
-        (255, 256, 1),
-        (256, 257, 2),
-        (65_535, 65_536, 2),
-        (65_536, 65_537, 3),
-    ];
-    for (count, distinct, bytes) in &cases {
-        let mut store = sure(rt.alloc());
-        let fp = filled(&rt, rt.alloc(), &mut store, *count)?;
-        assert!(rt; (fp.distinct, code_bytes(fp.distinct)) == (*distinct, *bytes));
-        let last = Value::Int(*count - 1);
-        let end = fp.slots.max(2);
-        assert_row(&rt, rt.alloc(), &fp, &mut store, 0, &Value::Null)?;
-        assert_row(&rt, rt.alloc(), &fp, &mut store, end - 1, &Value::Null)?;
-        assert_row(&rt, rt.alloc(), &fp, &mut store, 1, &Value::Int(0))?;
-        assert_row(&rt, rt.alloc(), &fp, &mut store, end / 2, &Value::Int(0))?;
-        assert_row(&rt, rt.alloc(), &fp, &mut store, end - 2, &last)?;
-        let most = *distinct * 2;
-        assert!(rt; 8 < most);
-        assert_found(&rt, rt.alloc(), &fp, &mut store, *count - 3, (6, most - 8))?;
+fn values_come_back_in_each_form(rt: HostRuntime) -> Result<(), PageFault> {
+    for (row, case) in CASES.iter().enumerate() {
+        comes_back(&rt, rt.alloc(), case, row)?;
     }
     Ok(())
 }
 
 #[test]
-fn one_statement_widens_codes_from_one_byte_to_three(rt: HostRuntime) -> Result<(), Fail> {
+fn one_statement_widens_codes_from_one_byte_to_three(rt: HostRuntime) -> Result<(), PageFault> {
     let mut store = sure(rt.alloc());
     let mut fp = Fp::empty(CODES, VALUES, Kind::Big);
     let mut want = ints(rt.alloc(), Kind::Big, &[Some(9), None, Some(9), Some(-1)])?;
     let more = numbers(rt.alloc(), Kind::Big, -1, 65_600)?;
-    put(&rt, rt.alloc(), &mut fp, &mut store, &want)?;
-    assert!(rt; code_bytes(fp.distinct) == 1);
-    put(&rt, rt.alloc(), &mut fp, &mut store, &more)?;
-    assert!(rt; (fp.distinct, code_bytes(fp.distinct)) == (65_602, 3));
-    for number in -1..65_600 {
-        want.push_number(number).map_err(|_| "no BIGINT")?;
-    }
+    put(rt.alloc(), &mut fp, &mut store, &want)?;
+    same(&rt, &code_bytes(fp.distinct), &1, 0);
+    put(rt.alloc(), &mut fp, &mut store, &more)?;
+    same(
+        &rt,
+        &(fp.distinct, code_bytes(fp.distinct)),
+        &(65_602, 3),
+        1,
+    );
+    push_numbers(&mut want, -1, 65_600)?;
     let got = whole(rt.alloc(), &fp, &mut store)?;
-    assert_same(&rt, &got, &want);
+    same(&rt, &differ(&got, &want), &None, 2);
     Ok(())
 }

@@ -5,6 +5,8 @@
 #![tactic(auto)]
 
 #[cfg(test)]
+mod checks;
+#[cfg(test)]
 mod hostile;
 #[cfg(test)]
 mod images;
@@ -16,3 +18,5 @@ mod stores;
 mod sweeps;
 #[cfg(test)]
 mod tables;
+#[cfg(test)]
+mod two_faults;

@@ -1,4 +1,5 @@
 //! Each byte of some blocks changed: what opening tells, and what the plain program tells.
+use crate::checks::same;
 use crate::images::two_tables;
 use crate::large::{one_high_object, two_descriptor_blocks};
 use iq_base::NoMemory;
@@ -76,40 +77,48 @@ fn first_difference(
     Ok(None)
 }
 
+/// The root, the descriptors, maps of several objects, and a page: each with the bytes in use.
+const TABLES: [(usize, usize, usize); 7] = [
+    (2, 0, 48),
+    (3, 0, 24),
+    (4, 0, 300),
+    (7, 0, 24),
+    (8, 0, 20),
+    (63, 0, 36),
+    (67, 0, 130),
+];
+
 #[test]
 fn opening_tells_what_the_definition_says(rt: HostRuntime) -> Result<(), Fail> {
-    let alloc = rt.alloc();
-    // The root, the descriptors, maps of several objects, and a page: each with the bytes in use.
-    let rows = [
-        (2, 0, 48),
-        (3, 0, 24),
-        (4, 0, 300),
-        (7, 0, 24),
-        (8, 0, 20),
-        (63, 0, 36),
-        (67, 0, 130),
-    ];
-    let blocks = two_tables(alloc)?;
-    assert_eq!(rt; first_difference(alloc, &blocks, &rows)?, None);
+    let blocks = two_tables(rt.alloc())?;
+    let found = first_difference(rt.alloc(), &blocks, &TABLES)?;
+    same(&rt, &found, &None, "a block and its byte");
     Ok(())
 }
+
+/// The reference of the cells; the map at the top, and both that it names.
+const HIGH: [(usize, usize, usize); 4] = [(4, 112, 120), (38, 8, 28), (39, 8, 20), (292, 8, 24)];
 
 #[test]
 fn it_tells_so_of_maps_above_maps(rt: HostRuntime) -> Result<(), Fail> {
-    let alloc = rt.alloc();
-    // The reference of the cells; the map at the top, and both that it names.
-    let rows = [(4, 112, 120), (38, 8, 28), (39, 8, 20), (292, 8, 24)];
-    let blocks = one_high_object(alloc)?;
-    assert_eq!(rt; first_difference(alloc, &blocks, &rows)?, None);
+    let blocks = one_high_object(rt.alloc())?;
+    let found = first_difference(rt.alloc(), &blocks, &HIGH)?;
+    same(&rt, &found, &None, "a block and its byte");
     Ok(())
 }
 
+/// The addresses of the other blocks and the counts; the end of the first block, and the front of the second.
+const TWO_BLOCKS: [(usize, usize, usize); 4] = [
+    (4, 16, 28),
+    (4, 59, 65),
+    (4, 1008, 1024),
+    (5, 0, 60),
+];
+
 #[test]
 fn it_tells_so_of_descriptors_of_two_blocks(rt: HostRuntime) -> Result<(), Fail> {
-    let alloc = rt.alloc();
-    // The addresses of the other blocks and the counts; the end of the first block, and the front of the second.
-    let rows = [(4, 16, 28), (4, 59, 65), (4, 1008, 1024), (5, 0, 60)];
-    let blocks = two_descriptor_blocks(alloc)?;
-    assert_eq!(rt; first_difference(alloc, &blocks, &rows)?, None);
+    let blocks = two_descriptor_blocks(rt.alloc())?;
+    let found = first_difference(rt.alloc(), &blocks, &TWO_BLOCKS)?;
+    same(&rt, &found, &None, "a block and its byte");
     Ok(())
 }

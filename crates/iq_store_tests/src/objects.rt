@@ -11,6 +11,7 @@ ghost use Rattle.iq_block_map.specs.Maps.{is_address};
 ghost use Rattle.iq_block_map.specs.Refs.{IsIn};
 ghost use Rattle.iq_block_map.specs.Takers.{AreSpare};
 
+use crate::checks::same;
 use iq_base::Ref;
 use iq_block_map::{MapFault, Taker, addresses, blocks, page, push, remap, with_page};
 use iq_block_store::{PAGE, Page, write};
@@ -61,10 +62,12 @@ fn around(alloc: Global, first: u32, last: u32, count: usize) -> Result<Vec<u32>
 }
 
 /// A device of so many blocks of zeros.
-fn zeros(alloc: Global, count: u32) -> Result<SureDevice, Fail> {
+fn zeros(alloc: Global, count: u32) -> Result<SureDevice, MapFault> {
     let mut disk = SureDevice::new(Vec::new(alloc));
-    disk.resize(count).map_err(|_| "no memory")?;
-    Ok(disk)
+    match disk.resize(count) {
+        Ok(()) => Ok(disk),
+        Err(_) => Err(MapFault::NoMemory),
+    }
 }
 
 /// Counts, and tells whether an object may stand in the device.
@@ -182,24 +185,20 @@ fn frame<D: Device>(
     kind: u8,
     level: u32,
     payload: &Page,
-) -> Result<(), Fail> {
-    match disk.count() {
-        Ok(count) if at < count => write(disk, at, kind, level, payload)?,
-        _ => return Err("no such block".into()),
-    }
-    Ok(())
+) -> Result<(), MapFault> {
+    let written = match disk.count() {
+        Ok(count) if at < count => write(disk, at, kind, level, payload).is_ok(),
+        _ => false,
+    };
+    if written { Ok(()) } else { Err(NO_CALL) }
 }
 
 /// A device with an object of so many pages, all in block 4.
-fn store(alloc: Global, pages: usize) -> Result<(Vec<Block>, Ref), Fail> {
+fn store(alloc: Global, pages: usize) -> Result<(Vec<Block>, Ref), MapFault> {
     let mut disk = zeros(alloc, 20)?;
     frame(&mut disk, 4, PAGE, 0, &[7; 1008])?;
-    let object = add(
-        &mut disk,
-        &mut Spares::new(5, 10),
-        EMPTY,
-        &around(alloc, 4, 4, pages)?,
-    )?;
+    let mut space = Spares::new(5, 10);
+    let object = add(&mut disk, &mut space, EMPTY, &around(alloc, 4, 4, pages)?)?;
     Ok((disk.blocks().to_vec(alloc)?, object))
 }
 
@@ -208,3 +207,6 @@ const FIRST: MapFault = MapFault::StoreFault {
     before: 0,
     after: 1,
 };
+
+/// Block 4, and the first and the last byte of a page of sevens that stands in it.
+const SEVENS: (u32, u8, u8) = (4, 7, 7);

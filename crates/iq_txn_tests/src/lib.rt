@@ -5,8 +5,12 @@
 #[cfg(test)]
 mod blocks;
 #[cfg(test)]
+mod checks;
+#[cfg(test)]
 mod locks;
 #[cfg(test)]
 mod rooms;
+#[cfg(test)]
+mod savepoints;
 #[cfg(test)]
 mod versions;

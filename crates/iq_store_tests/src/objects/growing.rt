@@ -45,22 +45,31 @@ fn grown(disk: &mut SureDevice, twice: bool, into: &mut Page) -> Result<Ref, Map
     }
 }
 
+/// The root and the pages of an object that grew, and the first byte of the page that was read.
+fn told(alloc: Global, twice: bool) -> Result<(u32, u32, u8), MapFault> {
+    let mut bytes = [0; 1008];
+    let object = grown(&mut zeros(alloc, 20)?, twice, &mut bytes)?;
+    Ok((object.root, object.pages, bytes[0]))
+}
+
 #[test]
 fn a_new_object_is_handed_on(rt: HostRuntime) -> Result<(), Fail> {
     let alloc = rt.alloc();
-    let mut bytes = [0; 1008];
-    let two = grown(&mut zeros(alloc, 20)?, true, &mut bytes)?;
-    assert_eq!(rt; (two.root, two.pages, bytes[0]), (7, 2, 8));
-    let one = grown(&mut zeros(alloc, 20)?, false, &mut bytes)?;
-    assert_eq!(rt; (one.root, one.pages, bytes[0]), (5, 1, 9));
+    same(&rt, &told(alloc, true)?, &(7, 2, 8), 0);
+    same(&rt, &told(alloc, false)?, &(5, 1, 9), 1);
     Ok(())
+}
+
+/// The pages of an object, and the most maps that an edit takes.
+const MOST: [(u32, u32); 5] = [(0, 1), (1, 2), (252, 2), (253, 3), (63504, 253)];
+
+fn most(pages: u32) -> u32 {
+    if pages <= 63504 { most_maps(pages) } else { 0 }
 }
 
 #[test]
 fn an_edit_takes_no_more_than_its_most(rt: HostRuntime) {
-    for (pages, most) in [(0, 1), (1, 2), (252, 2), (253, 3), (63504, 253)] {
-        if pages <= 63504 {
-            assert_eq!(rt; most_maps(pages), most, "{pages}");
-        }
+    for (row, (pages, maps)) in MOST.iter().enumerate() {
+        same(&rt, &most(*pages), maps, row);
     }
 }

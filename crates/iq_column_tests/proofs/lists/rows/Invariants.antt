@@ -3,4 +3,4 @@ use Rattle.iq_cells.specs.Growing.{kinds_of}
 use Rattle.iq_column_tests.proofs.lists.rows.Given as goal
 
 abbrev pub invariant-numbers : goal.invariant-numbers
-invariant-numbers g l = kinds_of l.free.items ≡ l.rows.kinds
+invariant-numbers l = kinds_of l.columns.items ≡ l.rows.kinds

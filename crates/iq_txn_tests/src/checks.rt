@@ -1,0 +1,18 @@
+//! Comparing what was found with what is wanted. It is a function of its own, so that it is proved once and not at each use.
+use std::fmt::Debug;
+use std::process::Abort;
+
+/// Asserts that two values are the same, in a row of a table.
+pub fn same<T: PartialEq + Debug>(rt: &impl Abort, found: &T, wanted: &T, row: usize) {
+    assert_eq!(rt; *found, *wanted, "row {row}");
+}
+
+/// Asserts that two texts are the same, in a row of a table.
+pub fn same_text(rt: &impl Abort, found: &str, wanted: &str, row: usize) {
+    assert_eq!(rt; found, wanted, "row {row}");
+}
+
+/// Asserts that two lists of numbers are the same.
+pub fn same_list(rt: &impl Abort, found: &[u32], wanted: &[u32]) {
+    assert_eq!(rt; found, wanted);
+}
