@@ -1,3 +1,1 @@
 pub mod AnswerLaws
-pub mod Replay
-pub mod Found

@@ -8,7 +8,6 @@ use Rattle.iq_ast.specs.declared.statements.Statement.{Statement}
 use Rattle.iq_ast.specs.declared.statements.Statement.TheVariants as statements
 use Rattle.iq_ast.specs.declared.statements.Write.TheVariants as writes
 use Rattle.iq_ast.specs.Built.{IsOfGrammar}
-use Rattle.iq_model.specs.Statements.{HasMeaning}
 use Rattle.iq_model.specs.declared.scripts.Deed.{Deed}
 use Rattle.iq_model.specs.declared.scripts.Deed.TheVariants as deeds
 use Rattle.iq_model.specs.declared.scripts.Line.{Line}
@@ -26,11 +25,6 @@ the_session lines = record { name = 115 ∷ []; node = 0; lines = lines }
 abbrev pub IsDeedOfGrammar : Deed → Type 0
 IsDeedOfGrammar (deeds.Statement statement) = IsOfGrammar statement
 IsDeedOfGrammar (deeds.Step step) = ⊥
-
--- a deed that is a statement with a meaning
-abbrev pub HasDeedMeaning : Deed → Type 0
-HasDeedMeaning (deeds.Statement statement) = HasMeaning statement
-HasDeedMeaning (deeds.Step step) = ⊥
 
 -- an INSERT has at most 16,777,216 tuples
 abbrev pub HasFewTuples : Statement → Type 0
@@ -55,11 +49,10 @@ abbrev pub HasFewDeedTuples : Deed → Type 0
 HasFewDeedTuples (deeds.Statement statement) = HasFewTuples statement
 HasFewDeedTuples (deeds.Step step) = ⊤
 
--- a line of the first session that is a statement of the grammar, and has a meaning
+-- a line of the first session that is a statement of the grammar
 pub record IsRunnableLine (line : Line) : Type 0 where
   pub session : line.session ≡ Some 0
   pub deed : IsDeedOfGrammar line.deed
-  pub meaning : HasDeedMeaning line.deed
   pub tuples : HasFewDeedTuples line.deed
 
 -- the numbers of the lines ascend, each above low

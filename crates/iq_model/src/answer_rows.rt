@@ -3,8 +3,7 @@ ghost use Rattle.std.specs.Prelude.{◌≡◌, ◌<◌, length, map, slice_index
 ghost use Rattle.iq_model.specs.declared.answers.Out.TheVariants as outs;
 ghost use Rattle.iq_model.specs.Outs.{out_of, outs_of};
 
-use crate::answers::Out;
-use crate::projection::out_of;
+use crate::answers::{Out, out_of};
 use iq_base::Listed;
 use iq_cells::Rows;
 use std::marker::Model;

@@ -1,8 +1,9 @@
 //! What queries and steps answer.
 ghost use Rattle.std.specs.Prelude.{◌≡◌};
+ghost use Rattle.iq_model.specs.Outs.{out_of};
 
 use crate::answer_rows::AnswerRows;
-use iq_base::{Letters, Listed, Text};
+use iq_base::{Letters, Listed, Text, Value};
 
 /// A value of an answer. Sums are of whole numbers of 128 bits.
 #[derive(Debug, Drop)]
@@ -22,6 +23,17 @@ impl Out {
             Out::Int(number) => Out::Int(*number),
             Out::Text(text) => Out::Text(text.again()),
         }
+    }
+}
+
+/// A value of a table as it is answered.
+pub fn out_of(value: &Value) -> Out
+    ensures { result ≡ out_of value.now }
+{
+    match value {
+        Value::Null => Out::Null,
+        Value::Int(number) => Out::Int(i128::from(*number)),
+        Value::Text(text) => Out::Text(text.again()),
     }
 }
 

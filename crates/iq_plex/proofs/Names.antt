@@ -1,43 +1,58 @@
--- Names and look-ups by them.
-use Rattle.std.proofs.Common.{◌≡◌, ℕ, Bool, true, false, List, [], ◌∷◌, refl, sym, ◌∙◌, ap, arith, nat_eq}
-use Rattle.std.specs.Cmp.Lexicographic.{same_text}
-use Rattle.std.proofs.lemmas.Bool.Decides.{nat_tests}
+-- The names that a write locks.
+use Rattle.std.specs.Prelude.{◌≡◌, refl, ◌≤◌, ◌||◌, Bool, true, false, List, [], ◌∷◌, length}
+use Rattle.std.proofs.Common.{ap, arith}
+use Rattle.iq_base.specs.Shorts.{Name}
 use Rattle.iq_base.specs.Locks.{catalog_name}
-use Rattle.iq_ast.specs.Words.{reserved, is_reserved}
-use Rattle.iq_model.specs.Tables.{same_name}
-use Rattle.iq_model.specs.State.{not_held}
+use Rattle.iq_ast.specs.declared.statements.Write.{Write}
+use Rattle.iq_ast.specs.declared.statements.Write.TheVariants as writes
+use Rattle.iq_statements.specs.Statements.{names_of}
+use Rattle.iq_replay.specs.State.{not_held, has_some}
+use Rattle.iq_conditions.specs.Servers.{same_name}
+use Rattle.iq_locks.proofs.Tables.{same_name-refl}
 
-pub nat_eq-refl : (n : ℕ) → nat_eq n n ≡ true
-nat_eq-refl n = grind (arith, nat_tests)
+-- a transaction that holds no name wants all
+pub none_held : (names : List Name) → not_held [] names ≡ names
+none_held [] = refl
+none_held (name ∷ names) = ap (λ (ns : List Name). name ∷ ns) (none_held names)
 
-pub same_name-refl : (n : List ℕ) → same_name n n ≡ true
-same_name-refl [] = refl
-same_name-refl (b ∷ bs) = rw (nat_eq-refl b) (same_name-refl bs)
+-- one that holds them wants none
+one_held : (name : Name) → not_held (name ∷ []) (name ∷ []) ≡ []
+one_held name = rw (same_name-refl name) refl
 
-pub same_name-true : (a b : List ℕ) → same_name a b ≡ true → a ≡ b
-same_name-true a b e = same_text a b (sym e)
-
--- the catalog's name is reserved
-reserved_catalog : is_reserved catalog_name ≡ true
-unfolding is_reserved reserved
-reserved_catalog = refl
-
--- so no name is the catalog's
-pub not_catalog : (name : List ℕ) → is_reserved name ≡ false → same_name name catalog_name ≡ false
-not_catalog name free = decide (same_name name catalog_name) refl
+two_held : (a b : Name) → not_held (a ∷ b ∷ []) (a ∷ b ∷ []) ≡ []
+two_held a b = rw (same_name-refl a, same_name-refl b, or_true (same_name a b)) refl
   where
-    decide : (b : Bool) → same_name name catalog_name ≡ b → same_name name catalog_name ≡ false
-    decide false e = e
-    decide true e =
-        let same = same_name-true name catalog_name e in
-        let clash : true ≡ false = sym reserved_catalog ∙ ap is_reserved (sym same) ∙ free in
-        cc
+    or_true : (x : Bool) → (x || true) ≡ true
+    or_true true = refl
+    or_true false = refl
 
--- a name that is held isn't locked again
-pub not_held-self : (name : List ℕ) → not_held (name ∷ []) (name ∷ []) ≡ []
-not_held-self name = rw (same_name-refl name) refl
+pub all_held : (write : Write) → not_held (names_of write) (names_of write) ≡ []
+all_held (writes.CreateTable name schema) = one_held catalog_name
+all_held (writes.DropTable name) = two_held catalog_name name
+all_held (writes.CreateIndex name kind table column second) = one_held table
+all_held (writes.DropIndex table name) = one_held table
+all_held (writes.Insert table rows) = one_held table
+all_held (writes.Load table rows text) = one_held table
+all_held (writes.Delete table cond) = one_held table
+all_held (writes.Update table changes cond) = one_held table
 
--- where nothing is held all names are locked
-pub not_held-none : (names : List (List ℕ)) → not_held [] names ≡ names
-not_held-none [] = refl
-not_held-none (n ∷ names) = ap (λ ns. n ∷ ns) (not_held-none names)
+-- a write locks one name at least, and two at most
+pub some_names : (write : Write) → has_some (names_of write) ≡ true
+some_names (writes.CreateTable name schema) = refl
+some_names (writes.DropTable name) = refl
+some_names (writes.CreateIndex name kind table column second) = refl
+some_names (writes.DropIndex table name) = refl
+some_names (writes.Insert table rows) = refl
+some_names (writes.Load table rows text) = refl
+some_names (writes.Delete table cond) = refl
+some_names (writes.Update table changes cond) = refl
+
+pub few_names : (write : Write) → length (names_of write) ≤ 2
+few_names (writes.CreateTable name schema) = omega arith
+few_names (writes.DropTable name) = omega arith
+few_names (writes.CreateIndex name kind table column second) = omega arith
+few_names (writes.DropIndex table name) = omega arith
+few_names (writes.Insert table rows) = omega arith
+few_names (writes.Load table rows text) = omega arith
+few_names (writes.Delete table cond) = omega arith
+few_names (writes.Update table changes cond) = omega arith

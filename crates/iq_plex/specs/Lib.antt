@@ -1,5 +1,2 @@
-pub mod Laid
-pub mod Plex
-pub mod Sound
-pub mod Stored
-pub mod Kept
+pub mod Standing
+pub mod Doing

@@ -1,15 +1,14 @@
-//! The state that a line changes step by step: stored tables, and the history of what befell them.
+//! The shared state of a run: its control, and its tables, which are in memory.
 //!
-//! Contracts see a `Plex` as its script, its opening tables and its history. Below stand `iq_table`, which keeps rows in pages,
-//! and `iq_model`, which says what a history may hold; above stands the run of a script. Its one law: the history is legal, and
-//! the stored tables stand for those that the session sees, with what its transaction has changed.
+//! Contracts see a `Plex` as the state that its history leaves, `state_of` of specs/Standing, and its tables as the plain ones that a
+//! session sees. Below stand `iq_control`, which keeps sessions, locks, commits and the history, and `iq_memory`, which runs
+//! statements over tables; above stands `iq_run`, which runs scripts. Its one law: whatever lines it runs, its history is legal, and
+//! each reply is the one that the history means.
 #![tactic(auto)]
 
+mod lines;
 mod plex;
-mod queries;
-mod stored;
-mod sure_pages;
-mod tables;
-mod writes;
+mod refusing;
+mod steps;
 
 pub use plex::Plex;

@@ -1,4 +1,3 @@
-pub mod Lines
 pub mod Streams
 pub mod Words
 pub mod Reports

@@ -1,20 +1,20 @@
 -- What a run of a script writes.
-use Rattle.std.specs.Prelude.{◌≡◌, ℕ, List, [], ◌++◌, All}
+use Rattle.std.specs.Prelude.{◌≡◌, ℕ, List, ◌++◌, All, Some, map}
 use Rattle.iq_base.specs.declared.refusals.Census.{Census}
 use Rattle.iq_history.specs.State.{HistoryState}
 use Rattle.iq_history.specs.declared.entries.Entry.{Entry}
 use Rattle.iq_model.specs.declared.scripts.Line.{Line}
 use Rattle.iq_model.specs.declared.scripts.Script.{Script}
 use Rattle.iq_model.specs.declared.replies.Reply.{Reply}
-use Rattle.iq_model.specs.Tables.{Database}
-use Rattle.iq_model.specs.State.{fresh, idle, start}
-use Rattle.iq_model.specs.History.{IsWhole, replies}
+use Rattle.iq_replay.specs.Histories.{IsWhole, replay, replies}
+use Rattle.iq_control.specs.Opened.{names_of_nodes, names_of_sessions}
 use Rattle.iq_outside.specs.Faults.{RoseWithin}
 use Rattle.iq_outside.specs.Streams.{Grows}
 use Rattle.iq_outside.specs.Whole.{GrowsByFront}
 use Rattle.iq_render.specs.Placed.{IsPlacedSaid}
 use Rattle.iq_render.specs.Whole.{transcript_text}
-use Rattle.iq_plex.specs.Plex.{PlexState, replies_of, IsAt, names_of_nodes, names_of_sessions}
+use Rattle.iq_plex.specs.declared.plex.Plex.{Plex}
+use Rattle.iq_plex.specs.Standing.{first_of, IsBetween}
 use Rattle.iq_run.specs.Streams.{Output, IsUnwritten}
 use Rattle.iq_run.specs.declared.ends.EndCause.{EndCause}
 use Rattle.iq_run.specs.declared.ends.EndCause.TheVariants as ends
@@ -27,15 +27,14 @@ no_blocks = record { free = 0; reserved = 0; private = 0; reached = 0; waiting =
 abbrev pub history_of : Script → List Entry → HistoryState
 history_of script es = record { nodes = names_of_nodes script; sessions = names_of_sessions script; entries = es; room = 0 }
 
--- the transcript of a script, the tables at its start, and a history: the reply of each line, the entries, and the census
-abbrev pub printed : Script → Database → List Entry → List ℕ
-printed script opening es = transcript_text (replies (start script opening) es) (history_of script es) no_blocks
-
--- the bytes are the transcript of one legal history of the script's lines, from no tables
+-- The bytes are the transcript of one legal history of all lines of the script, from no tables: each line's reply, in the lines'
+-- order, the entries, and the census.
 pub record IsTranscript (script : Script) (bytes : List ℕ) : Type 0 where
   pub entries : List Entry
-  pub whole : IsWhole script [] entries
-  pub bytes_are : bytes ≡ printed script [] entries
+  pub answers : List Reply
+  pub whole : IsWhole (first_of script) entries
+  pub each : replies (replay (first_of script) entries) script.lines ≡ map Some answers
+  pub bytes_are : bytes ≡ transcript_text answers (history_of script entries) no_blocks
 
 -- the transcript was written whole, and no write failed
 pub record WroteTranscript (script : Script) (o : Output) : Type 0 where
@@ -61,10 +60,16 @@ EndsRun script o (ends.OutFault before after) = WroteFront script o before after
 EndsRun script o ends.NoMemory = IsUnwritten o
 EndsRun script o ends.TooLong = ⊥
 
--- some lines were run: those behind them are left, and their replies came last
-pub record RunsLines (old : PlexState) (left : List Line) (rs : List Reply) (new : PlexState) : Type 0 where
-  pub same_script : new.script ≡ old.script
-  pub same_opening : new.opening ≡ old.opening
-  pub at : IsAt new idle fresh left
-  pub replies_are : replies_of new ≡ replies_of old ++ rs
+-- the numbers of lines, and of the lines that are answered
+abbrev pub numbers_of : List Line → List ℕ
+numbers_of lines = map (λ (line : Line). line.number) lines
+
+abbrev pub answered_by : List Reply → List ℕ
+answered_by rs = map (λ (r : Reply). r.line) rs
+
+-- of some lines those before the ones that are left were run, each with its reply
+pub record RunsLines (old : Plex) (lines left : List Line) (rs : List Reply) (new : Plex) : Type 0 where
+  pub same_script : new.control.script ≡ old.control.script
+  pub between : IsBetween new left rs
+  pub answered : answered_by rs ++ numbers_of left ≡ numbers_of lines
   pub placed : All (λ (r : Reply). IsPlacedSaid 1 1 r.said) rs

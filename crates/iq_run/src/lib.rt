@@ -6,7 +6,6 @@
 #![tactic(auto)]
 
 mod ends;
-mod lines;
 mod reports;
 mod runs;
 mod top;

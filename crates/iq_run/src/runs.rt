@@ -1,20 +1,15 @@
 //! Runs of scripts, line by line on the calling thread.
-ghost use Rattle.std.specs.Prelude.{◌≡◌, [], ◌++◌, IfOk, string_bytes};
+ghost use Rattle.std.specs.Prelude.{◌≡◌, [], IfOk, string_bytes};
 ghost use Rattle.std.specs.List.{AllByRecursion};
 ghost use Rattle.iq_base.specs.declared.refusals.Census.{Census};
 ghost use Rattle.iq_model.specs.Scripts.{IsRunnable, IsRunnableLine};
-ghost use Rattle.iq_model.specs.State.{idle, fresh};
-ghost use Rattle.iq_render.specs.Placed.{IsPlacedSaid};
-ghost use Rattle.iq_plex.specs.Plex.{IsAt};
-ghost use Rattle.iq_run.specs.Lines.{IsNext, EndsLine};
+ghost use Rattle.iq_plex.specs.Standing.{IsBetween};
 ghost use Rattle.iq_run.specs.Streams.{output};
 ghost use Rattle.iq_run.specs.Runs.{IsTranscript, EndsRun, RunsLines, no_blocks};
 
 use crate::ends::{EndCause, Ran, Rest};
-use crate::lines::{run_select, run_write};
-use iq_ast::Statement;
 use iq_base::{Census, NoMemory};
-use iq_model::{Deed, Line, Reply, Script};
+use iq_model::{Line, Reply, Script};
 use iq_outside::{Device, Sink, WriteFault, write_all};
 use iq_plex::Plex;
 use iq_render::transcript;
@@ -78,29 +73,15 @@ fn no_blocks() -> Census
     }
 }
 
-/// Runs lines in their order. The room for their replies is taken first.
+/// Runs the lines of a state that is just opened, in their order. The room for their replies is taken first.
 fn run_lines(alloc: Global, plex: &mut Plex, lines: &[Line]) -> Result<Vec<Reply>, NoMemory>
-    requires at { IsAt plex.old idle fresh lines.now }
+    requires between { IsBetween plex.old lines.now [] }
     requires runnable { AllByRecursion IsRunnableLine lines.now }
-    ensures { IfOk result (λ rs. RunsLines plex.old [] rs.items plex.new) }
+    ensures { IfOk result (λ rs. RunsLines plex.old lines.now [] rs.items plex.new) }
 {
     let mut replies = Vec::with_capacity(alloc, lines.len())?;
     for line in lines {
-        replies.push(run_line(alloc, plex, line))?;
+        replies.push(plex.run_line(alloc, line))?;
     }
     Ok(replies)
-}
-
-/// Runs one line.
-fn run_line(alloc: Global, plex: &mut Plex, line: &Line) -> Reply
-    requires next { IsNext plex.old line.now }
-    requires runnable { IsRunnableLine line.now }
-    ensures line { EndsLine plex.old result plex.new }
-    ensures placed { IsPlacedSaid 1 1 result.said }
-{
-    match &line.deed {
-        Deed::Statement(Statement::Write(write)) => run_write(alloc, plex, line.number, write),
-        Deed::Statement(Statement::Select(select)) => run_select(alloc, plex, line.number, select),
-        _ => unreachable!(),
-    }
 }

@@ -5,7 +5,7 @@ use iq_base::{FieldCause, Refusal};
 use iq_history::Entry;
 use iq_model::{Answer, AnswerRows, Out, Reply, Said};
 use iq_outside::{SureDevice, SureSink};
-use iq_plain::plain_replies;
+use iq_plain_runs::plain_run;
 use iq_run::step_run;
 use iq_script::{MOST_BYTES, read_script};
 use std::fmt::Write;
@@ -121,14 +121,14 @@ fn agrees<R: Threads + Wait + Sync + Abort + AllocGlobal>(rt: &R, text: &str) ->
         &mut out,
     );
     assert_eq!(rt; ran.cause.status(), 0);
-    let plain = plain_replies(alloc, &script)?;
+    let plain = plain_run(alloc, 4, true, &script, &[])?;
     let mut want = String::new(alloc);
-    for reply in plain.replies.as_slice() {
-        push_reply(&mut want, reply)?;
+    for line in script.lines.as_slice() {
+        push_reply(&mut want, plain.reply(line).ok_or("a reply")?)?;
     }
-    let count = plain.entries.len();
+    let count = plain.entries().len();
     write!(want, "history {count}\n")?;
-    for (at, entry) in plain.entries.as_slice().iter().enumerate() {
+    for (at, entry) in plain.entries().iter().enumerate() {
         let number = at.saturating_add(1);
         write!(want, "#{number} ")?;
         push_entry(&mut want, entry)?;

@@ -1,4 +1,3 @@
 mod Tuples
-mod Meaning
 pub mod LineLaws
 pub mod ScriptLaws

@@ -9,9 +9,8 @@ use Rattle.iq_model.specs.declared.scripts.Deed.{Deed}
 use Rattle.iq_model.specs.declared.scripts.Deed.TheVariants.{Statement, Step}
 use Rattle.iq_model.specs.declared.scripts.Line.{Line}
 use Rattle.iq_model.specs.declared.scripts.Script.{Script}
-use Rattle.iq_model.specs.Scripts.{the_session, IsDeedOfGrammar, IsRunnableLine, Ascend, IsRunnable, HasFewDeedTuples, HasDeedMeaning}
+use Rattle.iq_model.specs.Scripts.{the_session, IsDeedOfGrammar, IsRunnableLine, Ascend, IsRunnable, HasFewDeedTuples}
 use Rattle.iq_script.proofs.Tuples.{few_tuples}
-use Rattle.iq_script.proofs.Meaning.{statement_means}
 use Rattle.iq_parse.specs.Grammar.{IsStatementOf, IsOff}
 use Rattle.iq_parse.proofs.Steps.{some_is}
 use Rattle.iq_parse.proofs.StatementLaws.{read_only}
@@ -62,10 +61,6 @@ deed_built : (text : List ℕ) (deed : Deed) → IsDeedOf text deed → IsDeedOf
 deed_built text (Statement s) h = h.spells.built
 deed_built text (Step step) h = absurd h
 
-deed_means : (text : List ℕ) (deed : Deed) → IsDeedOf text deed → HasDeedMeaning deed
-deed_means text (Statement s) h = statement_means s h.spells.built
-deed_means text (Step step) h = absurd h
-
 deed_few : (text : List ℕ) (deed : Deed) → IsDeedOf text deed → HasFewDeedTuples deed
 deed_few text (Statement s) h = few_tuples text s h
 deed_few text (Step step) h = absurd h
@@ -74,7 +69,7 @@ zip_runnable : (ds : List Numbered) (lines : List Line) → AllZip IsLineOf ds l
 zip_runnable [] [] h = tt
 zip_runnable [] (l ∷ ls) h = absurd h
 zip_runnable (d ∷ ds) [] h = absurd h
-zip_runnable (d ∷ ds) (l ∷ ls) h = (record { session = h.0.session; deed = deed_built d.text l.deed h.0.deed; meaning = deed_means d.text l.deed h.0.deed; tuples = deed_few d.text l.deed h.0.deed }, zip_runnable ds ls h.1)
+zip_runnable (d ∷ ds) (l ∷ ls) h = (record { session = h.0.session; deed = deed_built d.text l.deed h.0.deed; tuples = deed_few d.text l.deed h.0.deed }, zip_runnable ds ls h.1)
 
 -- ---- one turn of the loop
 

@@ -7,6 +7,6 @@ use Rattle.iq_run.proofs.runs.run_lines.Given as goal
 -- the lines so far were run, and those that are left are of the grammar
 abbrev pub invariant-loop-line : goal.invariant-loop-line
 invariant-loop-line l = record {
-  so_far : RunsLines l.initial.plex (drop l.line-index l.lines) l.replies.items l.plex;
+  so_far : RunsLines l.initial.plex l.lines (drop l.line-index l.lines) l.replies.items l.plex;
   runnable : AllByRecursion IsRunnableLine (drop l.line-index l.lines);
 }

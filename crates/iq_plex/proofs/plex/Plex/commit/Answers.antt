@@ -1,19 +1,20 @@
-use Rattle.std.proofs.Common.{◌+◌, [], subst}
-use Rattle.iq_history.specs.declared.entries.Entry.{Entry}
-use Rattle.iq_history.specs.declared.entries.Entry.TheVariants as entries
-use Rattle.iq_plex.specs.Plex.{IsNext}
-use Rattle.iq_plex.proofs.Keeping.{kept_commit, commit_at, commit_fits, next_of}
+use Rattle.std.specs.Prelude.{None}
+use Rattle.iq_plex.proofs.Asking.{asks_commit}
+use Rattle.iq_plex.proofs.Stepping.{told_of, commit_asks, commit_ends}
 use Rattle.iq_plex.proofs.plex.Plex.commit.Goals as goal
 
-pub overflow_add-number : goal.overflow_add-number
-overflow_add-number c = record { fits = commit_fits c.self.inside.script.value c.self.inside.history c.self.inside.tables.items c.self.inside.latest c.self.invariant }
+pub commit-commit-requires-clause-at : goal.commit-commit-requires-clause-at
+commit-commit-requires-clause-at c =
+    let told = told_of c.args.write.now c.args.rows None c.requires.run in
+    asks_commit c.args.self.now c.args.line c.args.write.now told.what (c.requires.done told.what told.is)
 
-pub invariant_of-self : goal.invariant_of-self
-invariant_of-self c =
-    let possible = rw (← c.self.view_is) at c.requires in
-    kept_commit c.self.inside.script.value c.self.inside.history c.push.new.self c.self.inside.tables.items c.self.inside.latest c.args.s c.args.line c.self.invariant possible c.push.ensures
+pub commit-commit-requires-clause-room : goal.commit-commit-requires-clause-room
+commit-commit-requires-clause-room c =
+    let told = told_of c.args.write.now c.args.rows None c.requires.run in
+    commit_asks c.args.self.now c.args.line c.args.write.now told.what (c.requires.done told.what told.is)
 
-pub returns-clause-next : goal.returns-clause-next
-returns-clause-next c = rw (← c.self.view_is)
-    (subst (λ (e : Entry). IsNext (record { script = c.self.inside.script.value; opening = []; entries = c.self.inside.history.entries }) e (record { script = c.self.inside.script.value; opening = []; entries = c.push.new.self.entries })) (commit_at c.self.inside.script.value c.self.inside.history c.self.inside.tables.items c.self.inside.latest c.args.s c.args.line c.self.invariant)
-    (next_of c.self.inside.script.value [] c.self.inside.history.entries c.push.new.self.entries (entries.Commit c.args.s c.args.line (c.self.inside.latest + 1)) c.push.ensures.one_more))
+pub returns-clause-line : goal.returns-clause-line
+returns-clause-line c =
+    let told = told_of c.args.write.now c.args.rows None c.requires.run in
+    rw c.commit-commit.ensures.committed
+    (commit_ends c.args.self.now c.args.line c.args.rows c.args.write.now told.what c.told_by.result c.commit-commit.new.self.table (c.requires.done told.what told.is) told.is (rw (← c.commit-commit.ensures.number) c.told_by.ensures) c.commit-commit.ensures.table)

@@ -1,15 +1,17 @@
-use Rattle.std.proofs.Common.{[]}
-use Rattle.iq_history.specs.declared.entries.Entry.TheVariants as entries
-use Rattle.iq_ast.specs.declared.statements.Statement.TheVariants as statements
-use Rattle.iq_plex.proofs.Keeping.{kept_write, next_of}
+use Rattle.std.proofs.lemmas.Result.{err_from_is_err_and}
+use Rattle.iq_plex.proofs.Asking.{query_cause}
+use Rattle.iq_plex.proofs.Stepping.{query_does, query_goes}
 use Rattle.iq_plex.proofs.plex.Plex.select.Goals as goal
 
-pub invariant_of-self-2 : goal.invariant_of-self-2
-invariant_of-self-2 c =
-    let holds = rw (← c.self.view_is) at c.requires.holds in
-    let granted = c.in_ok-rows.ensures.granted c.self.invariant.seen c.self.invariant.tables_stand in
-    kept_write c.self.inside.script.value c.self.inside.history c.push.new.self c.self.inside.tables.items c.select.new.tables.items c.self.inside.latest c.args.s c.args.line (statements.Select c.args.select.now) c.self.invariant holds c.push.ensures granted
-    (c.in_ok-rows.ensures.stays c.self.invariant.seen c.self.invariant.tables_stand)
+pub returns-in_err-answer-clause-refused : goal.returns-in_err-answer-clause-refused
+returns-in_err-answer-clause-refused c =
+    let p = err_from_is_err_and c.from_residual.result c.from_residual.ensures.1 in
+    rw (p.1, p.2) (query_cause c.args.self.now c.select.new.self c.args.line c.args.select.now c.in_err-answer.field-0.0 c.requires.begun c.in_err-answer.ensures.placed c.in_err-answer.ensures.cause c.select.ensures.unchanged)
 
-pub returns-clause-ok : goal.returns-clause-ok
-returns-clause-ok c = rw (← c.self.view_is) (next_of c.self.inside.script.value [] c.self.inside.history.entries c.push.new.self.entries (entries.Done c.args.s c.args.line) c.push.ensures.one_more)
+pub returns-clause-on : goal.returns-clause-on
+returns-clause-on c =
+    rw c.done.ensures (query_goes c.args.self.now c.select.new.self c.args.line c.args.select.now c.in_ok-answer.answer c.requires.begun c.in_ok-answer.ensures.granted c.select.ensures.unchanged c.in_ok-answer.ensures.answer)
+
+pub returns-clause-done : goal.returns-clause-done
+returns-clause-done c =
+    rw c.done.ensures (query_does c.args.self.now c.select.new.self c.args.line c.args.select.now c.in_ok-answer.answer c.requires.begun c.in_ok-answer.ensures.granted c.select.ensures.unchanged c.in_ok-answer.ensures.answer)

@@ -1,6 +1,0 @@
-use Rattle.std.proofs.Common.{◌≡◌, ◌+◌, drop}
-use Rattle.iq_model.specs.Statements.{first_bad_row}
-use Rattle.iq_model.proofs.checks.first_bad_row.Given as goal
-
-abbrev pub invariant-loop-i : goal.invariant-loop-i
-invariant-loop-i l = first_bad_row (l.i + 1) l.columns (drop l.i l.rows) ≡ first_bad_row 1 l.fn.columns l.fn.rows

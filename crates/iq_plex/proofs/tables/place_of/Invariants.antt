@@ -1,7 +1,0 @@
-use Rattle.std.proofs.Common.{◌≡◌, drop}
-use Rattle.iq_plex.specs.Stored.{place_from}
-use Rattle.iq_plex.proofs.tables.place_of.Given as goal
-
--- what is left gives what all tables give
-abbrev pub invariant-loop-i : goal.invariant-loop-i
-invariant-loop-i l = place_from l.i l.name (drop l.i l.tables) ≡ place_from 0 l.name l.tables
