@@ -11,7 +11,7 @@ use Rattle.iq_grammar.specs.declared.faults.ParseFault.TheVariants.{Syntax}
 use Rattle.iq_grammar.specs.Grammar.{Line, Sign, sign, Fits, after, can_end, lines, may_lack}
 use Rattle.iq_grammar.specs.Draft.{◌>>=◌, empty, put}
 use Rattle.iq_grammar.specs.declared.draft.Draft.{Draft}
-use Rattle.iq_grammar.specs.Reading.{built, text_of, Spells, GoesOn, IsStuck, IsFault, State, state, next, ended, going, run, Gives, statement, IsSpelled, IsFaultAt}
+use Rattle.iq_grammar.specs.Reading.{built, text_of, Spells, GoesOn, IsStuck, place_of, IsFault, State, state, next, ended, going, run, Gives, statement, directive, IsSpelled, IsFaultAt}
 use Rattle.iq_grammar.proofs.Steps.{bind_some, some_is}
 use Rattle.iq_grammar.proofs.Forms.{after_fits, end_fits, fits_end}
 use Rattle.iq_grammar.proofs.Sound.{Apart, after_apart, step_taken, follow, marks_behind, closed, firsts, closed_apart}
@@ -194,6 +194,47 @@ unfolding run
 run_place end [] d ss n a h = end_step end d ss n (can_end ss) a refl h
 run_place end (t ∷ ts) d ss n a h = place_step end t ts d ss n (next d ss t.lexeme) refl a (λ s b. run_place end ts s.draft s.symbols n b) h
 
+-- ---- a fault is told at its place
+
+-- the state behind a first token that goes on
+goes_next : (d : Draft) (ss : List Symbol) (l : Lexeme) (ls : List Lexeme) → Apart ss → GoesOn d ss (l ∷ ls) → (s : State) × (next d ss l ≡ Some s)
+goes_next d ss l ls a g = by_signs g.signs g.fits g.text g.makes
+  where
+    by_signs : (ms : List Sign) → Fits ss (ms ++ g.more) → text_of ms ≡ l ∷ ls → built d ms ≡ Some g.made → (s : State) × (next d ss l ≡ Some s)
+    by_signs [] fit text makes = absurd cc
+    by_signs (m ∷ ms) fit text makes =
+        let n = takes d ss m (ms ++ g.more) ms g.made fit a makes in
+        let one : m.lexeme ≡ l = cc in
+        (n.0, subst (λ (x : Lexeme). next d ss x ≡ Some n.0) one n.1)
+
+stuck_behind : (d : Draft) (ss : List Symbol) (l : Lexeme) (s : State) (front : List Lexeme) (rest : List Token) → next d ss l ≡ Some s
+    → IsStuck d ss (l ∷ front) rest → IsStuck s.draft s.symbols front rest
+stuck_behind d ss l s front [] is stuck = λ e sp. stuck e (spells_before d ss l s front e (stepped d ss l s is) sp)
+stuck_behind d ss l s front (r ∷ rest) is stuck = λ g. stuck (goes_before d ss l s (front ++ r.lexeme ∷ []) (stepped d ss l s is) g)
+
+told_first : (end : ℕ) (t : Token) (ts : List Token) (d : Draft) (ss : List Symbol) (n : ℕ) (o : Option State) → next d ss t.lexeme ≡ o → Apart ss
+    → (GoesOn d ss (t.lexeme ∷ []) → ⊥) → n ≡ t.place → going o (λ (s : State). run end s.draft s.symbols ts) t.place ≡ Err n
+told_first end t ts d ss n None is a stuck place = ap Err (sym place)
+told_first end t ts d ss n (Some s) is a stuck place =
+    absurd (stuck (goes_before d ss t.lexeme s [] (stepped d ss t.lexeme s is) (goes_nowhere s.draft s.symbols (next_apart d ss t.lexeme s a is))))
+
+told_end : (end : ℕ) (d : Draft) (ss : List Symbol) (n : ℕ) (b : Bool) → can_end ss ≡ b → ((e : Draft) → Spells d ss [] e → ⊥) → n ≡ end + 1 → ended b end d ≡ Err n
+told_end end d ss n true is stuck place = absurd (stuck d (record { signs = []; fits = end_fits ss is; text = refl; makes = refl }))
+told_end end d ss n false is stuck place = ap Err (sym place)
+
+pub run_stuck : (end : ℕ) (front rest : List Token) (d : Draft) (ss : List Symbol) (n : ℕ) → Apart ss → GoesOn d ss (lexemes front) → IsStuck d ss (lexemes front) rest
+    → n ≡ place_of end rest → run end d ss (front ++ rest) ≡ Err n
+unfolding run
+run_stuck end [] [] d ss n a g stuck is = told_end end d ss n (can_end ss) refl stuck is
+run_stuck end [] (t ∷ rest) d ss n a g stuck is = told_first end t rest d ss n (next d ss t.lexeme) refl a stuck is
+run_stuck end (f ∷ fs) rest d ss n a g stuck is =
+    let s = goes_next d ss f.lexeme (lexemes fs) a g in
+    rw s.1 (run_stuck end fs rest s.0.draft s.0.symbols n (next_apart d ss f.lexeme s.0 a s.1) (goes_behind d ss f.lexeme s.0 (lexemes fs) a s.1 g) (stuck_behind d ss f.lexeme s.0 (lexemes fs) rest s.1 stuck) is)
+
+-- a fault's place is the one that reading tells
+pub run_faulty : (end : ℕ) (ts : List Token) (d : Draft) (ss : List Symbol) (n : ℕ) → Apart ss → IsFault end d ss ts n → run end d ss ts ≡ Err n
+run_faulty end ts d ss n a f = subst (λ (x : List Token). run end d ss x ≡ Err n) (sym f.whole) (run_stuck end f.front f.rest d ss n a f.goes f.stuck f.is)
+
 -- ---- whole statements
 
 statement_apart : Apart statement
@@ -232,3 +273,48 @@ told_only end ts r h d sp = subst (λ (x : Result Draft ℕ). Gives r x) (read_o
 
 pub told_place : (end : ℕ) (ts : List Token) (r : Result Draft ParseFault) → Gives r (run end empty statement ts) → (place : ℕ) → r ≡ Err (Syntax place) → IsFaultAt end ts place
 told_place end ts r h place is = read_place end ts place (subst (λ (x : Result Draft ParseFault). Gives x (run end empty statement ts)) is h)
+
+-- ---- whole directives
+
+directive_apart : Apart directive
+unfolding lines may_lack follow marks_behind closed firsts can_end same same_mark
+directive_apart = closed_apart directive refl
+
+directive_only : (end : ℕ) (ts : List Token) (d : Draft) → Spells empty directive (lexemes ts) d → run end empty directive ts ≡ Ok d
+directive_only end ts d sp = run_only end sp.signs ts empty directive d sp.fits directive_apart sp.makes sp.text
+
+pub directive_one : (ls : List Lexeme) (d e : Draft) → Spells empty directive ls d → Spells empty directive ls e → d ≡ e
+directive_one ls d e p q =
+    let a = directive_only 0 (placed ls) d (subst (λ (x : List Lexeme). Spells empty directive x d) (sym (lexemes-placed ls)) p) in
+    let b = directive_only 0 (placed ls) e (subst (λ (x : List Lexeme). Spells empty directive x e) (sym (lexemes-placed ls)) q) in
+    cc
+
+pub directive_found : (end : ℕ) (ts : List Token) (r : Result Draft ParseFault) → Gives r (run end empty directive ts) → IfOk r (Spells empty directive (lexemes ts))
+directive_found end ts (Ok d) h = run_found end ts empty directive d h
+directive_found end ts (Err e) h = tt
+
+pub directive_told : (end : ℕ) (ts : List Token) (r : Result Draft ParseFault) → Gives r (run end empty directive ts) → (d : Draft) → Spells empty directive (lexemes ts) d → Gives r (Ok d)
+directive_told end ts r h d sp = subst (λ (x : Result Draft ℕ). Gives r x) (directive_only end ts d sp) h
+
+pub directive_place : (end : ℕ) (ts : List Token) (r : Result Draft ParseFault) → Gives r (run end empty directive ts) → (place : ℕ) → r ≡ Err (Syntax place) → IsFault end empty directive ts place
+directive_place end ts r h place is = run_place end ts empty directive place directive_apart (subst (λ (x : Result Draft ParseFault). Gives x (run end empty directive ts)) is h)
+
+-- ---- a text has a statement or one place of its fault, and likewise a directive
+
+no_both : (r : Result Draft ℕ) (d : Draft) (n : ℕ) → r ≡ Ok d → r ≡ Err n → ⊥
+no_both r d n a b = let bad : Ok d ≡ Err n = sym a ∙ b in cc
+
+same_place : (r : Result Draft ℕ) (m n : ℕ) → r ≡ Err m → r ≡ Err n → m ≡ n
+same_place r m n a b = let same : Err m ≡ Err n = sym a ∙ b in cc
+
+pub read_or_faulty : (end : ℕ) (ts : List Token) (d : Draft) (place : ℕ) → IsSpelled (lexemes ts) d → IsFaultAt end ts place → ⊥
+read_or_faulty end ts d place sp f = no_both (run end empty statement ts) d place (read_only end ts d sp) (run_faulty end ts empty statement place statement_apart f)
+
+pub one_faulty : (end : ℕ) (ts : List Token) (m n : ℕ) → IsFaultAt end ts m → IsFaultAt end ts n → m ≡ n
+one_faulty end ts m n f g = same_place (run end empty statement ts) m n (run_faulty end ts empty statement m statement_apart f) (run_faulty end ts empty statement n statement_apart g)
+
+pub directive_or_faulty : (end : ℕ) (ts : List Token) (d : Draft) (place : ℕ) → Spells empty directive (lexemes ts) d → IsFault end empty directive ts place → ⊥
+directive_or_faulty end ts d place sp f = no_both (run end empty directive ts) d place (directive_only end ts d sp) (run_faulty end ts empty directive place directive_apart f)
+
+pub directive_one_faulty : (end : ℕ) (ts : List Token) (m n : ℕ) → IsFault end empty directive ts m → IsFault end empty directive ts n → m ≡ n
+directive_one_faulty end ts m n f g = same_place (run end empty directive ts) m n (run_faulty end ts empty directive m directive_apart f) (run_faulty end ts empty directive n directive_apart g)

@@ -19,6 +19,9 @@ use Rattle.iq_grammar.proofs.Steps.{not_true, and_true, or_true, or_left, or_rig
 -- the marks that may stand behind a part
 unfoldable pub marks_behind : Part → List Mark
 marks_behind part.Statement = Semicolon ∷ []
+marks_behind part.Directive = Semicolon ∷ []
+marks_behind part.Declared = Semicolon ∷ []
+marks_behind part.Status = Semicolon ∷ []
 marks_behind part.BackTo = Semicolon ∷ []
 marks_behind part.Created = Semicolon ∷ []
 marks_behind part.OneColumn = Semicolon ∷ []

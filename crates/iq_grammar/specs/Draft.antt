@@ -19,9 +19,10 @@ use Rattle.iq_ast.specs.declared.statements.Change.{Change}
 use Rattle.iq_tokens.specs.declared.tokens.Lexeme.{Lexeme}
 use Rattle.iq_tokens.specs.declared.tokens.Lexeme.TheVariants as lexeme
 use Rattle.iq_grammar.specs.declared.grammar.Form.TheVariants as form
+use Rattle.iq_grammar.specs.declared.grammar.Order.TheVariants as the_order
 use Rattle.iq_grammar.specs.declared.grammar.Aggregate.{Aggregate}
 use Rattle.iq_grammar.specs.declared.grammar.Aggregate.TheVariants as aggregate
-use Rattle.iq_grammar.specs.declared.draft.TheConstants.{MOST_COLUMNS, MOST_LENGTH, MOST_ROWS, MOST_DEPTH}
+use Rattle.iq_grammar.specs.declared.draft.TheConstants.{MOST_COLUMNS, MOST_LENGTH, MOST_ROWS, MOST_DEPTH, MOST_NUMBER}
 use Rattle.iq_grammar.specs.declared.draft.Level.{Level}
 use Rattle.iq_grammar.specs.declared.draft.Draft.{Draft}
 use Rattle.iq_grammar.specs.declared.grammar.Role.{Role}
@@ -37,7 +38,7 @@ abbrev pub no_level : Level
 no_level = record { ands = []; ors = []; nots = 0; base = 0 }
 
 abbrev pub empty : Draft
-empty = record { form = form.Sync; explain = false; table = []; name = []; index = index.Lf; first = []; second = None; columns = []; row = []; rows = []; count = 0; changed = []; changes = []; items = []; aggregate = aggregate.Count; group = []; order = []; column = []; op = op.Eq; negated = false; low = value.Null; level = no_level; outer = [] }
+empty = record { form = form.Sync; directive = the_order.Space; explain = false; table = []; name = []; index = index.Lf; first = []; second = None; columns = []; row = []; rows = []; count = 0; changed = []; changes = []; items = []; aggregate = aggregate.Count; group = []; order = []; column = []; op = op.Eq; negated = false; low = value.Null; level = no_level; outer = [] }
 
 -- ---- what a token holds
 
@@ -79,6 +80,11 @@ length_in (negsuc n) = None
 abbrev pub count_in : ℤ → Option ℕ
 count_in (pos n) = if nat_lt 0 n && nat_le n MOST_ROWS then Some n else None
 count_in (negsuc n) = None
+
+-- a number of a step is from 0 to 4,294,967,295
+abbrev pub step_number_in : ℤ → Option ℕ
+step_number_in (pos n) = if nat_le n MOST_NUMBER then Some n else None
+step_number_in (negsuc n) = None
 
 -- the list with a change in its last member
 abbrev pub change_last : {A : Type 0} → (A → A) → List A → List A
@@ -142,6 +148,8 @@ closed d (l ∷ ls) = Some (record d { level = with_cond l (whole d.level); oute
 unfoldable pub put : Draft → Role → Lexeme → Option Draft
 put d role.Skip l = Some d
 put d (role.Form f) l = Some (record d { form = f })
+put d (role.Order o) l = Some (record d { directive = o })
+put d role.Number l = number_in l >>= λ (n : ℤ). step_number_in n >>= λ (m : ℕ). Some (record d { count = m })
 put d role.Explain l = Some (record d { explain = true })
 put d role.Table l = name_in l >>= λ (n : List ℕ). Some (record d { table = n })
 put d role.Name l = name_in l >>= λ (n : List ℕ). Some (record d { name = n })

@@ -4,13 +4,14 @@ use Rattle.iq_base.specs.declared.values.Kind.TheVariants as column_kind
 use Rattle.iq_base.specs.declared.schemas.IndexKind.TheVariants as index
 use Rattle.iq_ast.specs.declared.conditions.Op.TheVariants as op
 use Rattle.iq_tokens.specs.declared.tokens.Mark.{Mark as TheMark}
-use Rattle.iq_tokens.specs.declared.tokens.Mark.TheVariants.{Create, Drop, Insert, Into, Values, Load, Table, Rows, Delete, From, Update, Set, Equal, Explain, Select, Begin, Transaction, Commit, Rollback, Savepoint, Release, Sync, To, Open, Close, Lf, Hg, Hng, Cmp, Index, On, Comma, Int, Bigint, Varchar, Null, Not, Dot, Star, Count, Sum, Min, Max, Group, By, Order, Asc, Desc, Where, And, Or, Differs, Less, AtMost, More, AtLeast, Between, In, Is, Semicolon}
+use Rattle.iq_tokens.specs.declared.tokens.Mark.TheVariants.{Create, Drop, Insert, Into, Values, Load, Table, Rows, Delete, From, Update, Set, Equal, Explain, Select, Begin, Transaction, Commit, Rollback, Savepoint, Release, Sync, To, Open, Close, Lf, Hg, Hng, Cmp, Index, On, Comma, Int, Bigint, Varchar, Null, Not, Dot, Star, Count, Sum, Min, Max, Group, By, Order, Asc, Desc, Where, And, Or, Differs, Less, AtMost, More, AtLeast, Between, In, Is, Semicolon, Alter, Apply, Coordinator, Excluded, Included, Lose, Multiplex, Node, Reader, Report, Restart, Server, Session, Space, Status, Take, Versions, Writer}
 use Rattle.iq_tokens.specs.declared.tokens.Kind.{Kind}
 use Rattle.iq_tokens.specs.declared.tokens.Kind.TheVariants.{Mark, Name, Number, Text}
 use Rattle.iq_tokens.specs.declared.tokens.Lexeme.{Lexeme}
 use Rattle.iq_tokens.specs.Kinds.{same, kind_of}
 use Rattle.iq_grammar.specs.declared.grammar.Form.TheVariants as form
 use Rattle.iq_grammar.specs.declared.grammar.Aggregate.TheVariants as aggregate
+use Rattle.iq_grammar.specs.declared.grammar.Order.TheVariants as order
 use Rattle.iq_grammar.specs.declared.grammar.Role.{Role}
 use Rattle.iq_grammar.specs.declared.grammar.Role.TheVariants as role
 use Rattle.iq_grammar.specs.declared.grammar.Part.{Part}
@@ -59,6 +60,24 @@ lines part.Statement =
     ∷ line Savepoint (role.Form form.Savepoint) (Word Name role.Name ∷ [])
     ∷ line Release (role.Form form.Release) (word Savepoint ∷ Word Name role.Name ∷ [])
     ∷ line Sync (role.Form form.Sync) [] ∷ []
+lines part.Directive =
+    line Node role.Skip (Word Name role.Name ∷ Go part.Declared ∷ [])
+    ∷ line Session (role.Order order.Session) (Word Name role.Name ∷ word On ∷ Word Name role.Table ∷ [])
+    ∷ line Apply (role.Order order.Apply) (Word Name role.Name ∷ [])
+    ∷ line Report (role.Order order.Report) (Word Name role.Name ∷ [])
+    ∷ line Lose (role.Order order.Lose) (Word Number role.Number ∷ [])
+    ∷ line Take (role.Order order.Take) (Word Number role.Number ∷ [])
+    ∷ line Restart (role.Order order.Restart) (Word Name role.Name ∷ [])
+    ∷ line Alter role.Skip (word Multiplex ∷ word Server ∷ Word Name role.Name ∷ word Status ∷ Go part.Status ∷ [])
+    ∷ line Space (role.Order order.Space) []
+    ∷ line Versions (role.Order order.Versions) [] ∷ []
+lines part.Declared =
+    line Coordinator (role.Order order.Coordinator) []
+    ∷ line Writer (role.Order order.Writer) []
+    ∷ line Reader (role.Order order.Reader) [] ∷ []
+lines part.Status =
+    line Excluded (role.Order order.Exclude) []
+    ∷ line Included (role.Order order.Include) [] ∷ []
 lines part.BackTo = line To (role.Form form.BackTo) (word Savepoint ∷ Word Name role.Name ∷ []) ∷ []
 lines part.Created =
     line Table (role.Form form.CreateTable) (Word Name role.Table ∷ word Open ∷ Go part.Column ∷ Go part.MoreColumns ∷ word Close ∷ [])
@@ -163,6 +182,9 @@ lines part.End = line Semicolon role.Skip [] ∷ []
 -- whether the part may be left out
 unfoldable pub may_lack : Part → Bool
 may_lack part.Statement = false
+may_lack part.Directive = false
+may_lack part.Declared = false
+may_lack part.Status = false
 may_lack part.BackTo = true
 may_lack part.Created = false
 may_lack part.OneColumn = false

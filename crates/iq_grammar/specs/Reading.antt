@@ -6,6 +6,7 @@ use Rattle.iq_tokens.specs.Tokens.{lexemes, IsLexeme}
 use Rattle.iq_tokens.specs.declared.tokens.Token.{Token}
 use Rattle.iq_grammar.specs.declared.grammar.Symbol.{Symbol}
 use Rattle.iq_grammar.specs.declared.grammar.Symbol.TheVariants.{Go}
+use Rattle.iq_grammar.specs.declared.grammar.Part.{Part}
 use Rattle.iq_grammar.specs.declared.grammar.Part.TheVariants as part
 use Rattle.iq_grammar.specs.declared.faults.ParseFault.{ParseFault}
 use Rattle.iq_grammar.specs.declared.faults.ParseFault.TheVariants.{Syntax, NoMemory}
@@ -94,9 +95,17 @@ Gives (Ok d) read = read ≡ Ok d
 Gives (Err (Syntax place)) read = read ≡ Err place
 Gives (Err NoMemory) read = ⊤
 
+-- a whole text of a part
+abbrev pub whole_of : Part → List Symbol
+whole_of p = Go p ∷ Go part.End ∷ []
+
 -- a whole statement
 abbrev pub statement : List Symbol
-statement = Go part.Statement ∷ Go part.End ∷ []
+statement = whole_of part.Statement
+
+-- a whole directive
+abbrev pub directive : List Symbol
+directive = whole_of part.Directive
 
 -- the tokens spell the draft of a statement
 abbrev pub IsSpelled : List Lexeme → Draft → Type 0

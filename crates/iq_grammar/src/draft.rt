@@ -1,14 +1,16 @@
-//! The statement under way.
+//! The statement or the directive under way.
 ghost use Rattle.std.specs.Prelude.{◌≡◌, IfOk, [], true, false};
 ghost use Rattle.iq_base.specs.declared.schemas.Column.{Column as TheColumn};
 ghost use Rattle.iq_ast.specs.declared.statements.Order.{Order as TheOrder};
 ghost use Rattle.iq_grammar.specs.Draft as spec;
 ghost use Rattle.iq_grammar.specs.Draft.{Puts};
 ghost use Rattle.iq_grammar.specs.Statements.{statement_of, where_of};
+ghost use Rattle.iq_grammar.specs.Directives.{directive_of, the_node};
 
-use crate::grammar::{Aggregate, Form, Role};
+use crate::directives::Directive;
+use crate::grammar::{Aggregate, Form, Order as DirectiveOrder, Role};
 use iq_ast::{Change, Cond, Item, Op, Order, Select, Statement, Test, Write};
-use iq_base::{Column, IndexKind, Kind, Listed, Name, NoMemory, Schema, Value};
+use iq_base::{Column, IndexKind, Kind, Listed, Name, NoMemory, NodeKind, Schema, Value};
 use iq_tokens::Lexeme;
 use sqlite_items::{Boxed, Items};
 use std::alloc::Global;
@@ -22,6 +24,9 @@ pub const MOST_LENGTH: usize = 255;
 
 /// The most rows of a LOAD.
 pub const MOST_ROWS: usize = 1_000_000;
+
+/// The greatest number of a step.
+pub const MOST_NUMBER: usize = 4_294_967_295;
 
 /// How deep brackets and NOT may nest in a condition.
 pub const MOST_DEPTH: usize = 64;
@@ -40,6 +45,7 @@ pub struct Level {
 #[derive(Drop)]
 pub struct Draft {
     pub form: Form,
+    pub directive: DirectiveOrder,
     pub explain: bool,
     pub table: Name,
     pub name: Name,
@@ -170,6 +176,16 @@ fn descend(alloc: Global, order: &mut Listed<Order>) -> Result<(), NoMemory>
     Ok(())
 }
 
+fn step_number_in(number: i64) -> Option<u32>
+    ensures { result ≡ spec.step_number_in number }
+{
+    if 0 <= number && number <= MOST_NUMBER as i64 {
+        Some(number as u32)
+    } else {
+        None
+    }
+}
+
 fn has_change(changes: &Listed<Change>, name: &Name) -> bool
     ensures { result ≡ spec.has_change changes.now name.now }
 {
@@ -230,6 +246,12 @@ fn or_of(members: Items<Cond>) -> Result<Cond, NoMemory>
             Ok(Cond::Or(members))
         }
     }
+}
+
+fn node(name: Name, kind: NodeKind) -> Directive
+    ensures { result ≡ the_node name kind }
+{
+    Directive::Node { name, kind }
 }
 
 impl Level {
@@ -296,6 +318,7 @@ impl Draft {
     {
         Draft {
             form: Form::Sync,
+            directive: DirectiveOrder::Space,
             explain: false,
             table: nothing(),
             name: nothing(),
@@ -335,6 +358,16 @@ impl Draft {
         match role {
             Role::Skip => {}
             Role::Form(form) => self.form = form,
+            Role::Order(order) => self.directive = order,
+            Role::Number => {
+                let Some(number) = number_in(lexeme) else {
+                    return Ok(false);
+                };
+                let Some(count) = step_number_in(number) else {
+                    return Ok(false);
+                };
+                self.count = count;
+            }
             Role::Explain => self.explain = true,
             Role::Table => {
                 let Some(name) = name_in(lexeme) else {
@@ -552,6 +585,35 @@ impl Draft {
             }
         }
         Ok(true)
+    }
+
+    /// The directive that the draft is.
+    #[tactic(auto, unfolding(crate::specs::Directives::directive_of))]
+    pub fn direct(self) -> Directive
+        ensures { result ≡ directive_of self }
+    {
+        let Draft {
+            directive,
+            name,
+            table,
+            count,
+            ..
+        } = self;
+        match directive {
+            DirectiveOrder::Coordinator => node(name, NodeKind::Coordinator),
+            DirectiveOrder::Writer => node(name, NodeKind::Writer),
+            DirectiveOrder::Reader => node(name, NodeKind::Reader),
+            DirectiveOrder::Session => Directive::Session { name, node: table },
+            DirectiveOrder::Apply => Directive::Apply(name),
+            DirectiveOrder::Report => Directive::Report(name),
+            DirectiveOrder::Lose => Directive::Lose(count),
+            DirectiveOrder::Take => Directive::Take(count),
+            DirectiveOrder::Restart => Directive::Restart(name),
+            DirectiveOrder::Exclude => Directive::Exclude(name),
+            DirectiveOrder::Include => Directive::Include(name),
+            DirectiveOrder::Space => Directive::Space,
+            DirectiveOrder::Versions => Directive::Versions,
+        }
     }
 
     /// The statement that the draft is.

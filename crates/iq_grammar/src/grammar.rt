@@ -37,11 +37,31 @@ pub enum Aggregate {
     Max,
 }
 
-/// What a token at a place of the grammar does to the statement under way.
+/// The forms of directives, which belong to no session: the three declarations of a node, that of a session, and the steps.
+#[derive(Clone, Copy, Debug, PartialEq, Eq)]
+pub enum Order {
+    Coordinator,
+    Writer,
+    Reader,
+    Session,
+    Apply,
+    Report,
+    Lose,
+    Take,
+    Restart,
+    Exclude,
+    Include,
+    Space,
+    Versions,
+}
+
+/// What a token at a place of the grammar does to the statement or the directive under way.
 #[derive(Clone, Copy, Debug)]
 pub enum Role {
     Skip,
     Form(Form),
+    Order(Order),
+    Number,
     Explain,
     Table,
     Name,
@@ -84,6 +104,9 @@ pub enum Role {
 #[derive(Clone, Copy, Debug, PartialEq, Eq)]
 pub enum Part {
     Statement,
+    Directive,
+    Declared,
+    Status,
     BackTo,
     Created,
     OneColumn,
@@ -183,6 +206,27 @@ pub fn lines(part: Part) -> &'static [Line]
             line!(Savepoint=Form(Form::Savepoint) Name=Name),
             line!(Release=Form(Form::Release) Savepoint Name=Name),
             line!(Sync = Form(Form::Sync)),
+        ],
+        Part::Directive => &[
+            line!(Node Name=Name <Declared>),
+            line!(Session=Order(Order::Session) Name=Name On Name=Table),
+            line!(Apply=Order(Order::Apply) Name=Name),
+            line!(Report=Order(Order::Report) Name=Name),
+            line!(Lose=Order(Order::Lose) Number=Number),
+            line!(Take=Order(Order::Take) Number=Number),
+            line!(Restart=Order(Order::Restart) Name=Name),
+            line!(Alter Multiplex Server Name=Name Status <Status>),
+            line!(Space = Order(Order::Space)),
+            line!(Versions = Order(Order::Versions)),
+        ],
+        Part::Declared => &[
+            line!(Coordinator = Order(Order::Coordinator)),
+            line!(Writer = Order(Order::Writer)),
+            line!(Reader = Order(Order::Reader)),
+        ],
+        Part::Status => &[
+            line!(Excluded = Order(Order::Exclude)),
+            line!(Included = Order(Order::Include)),
         ],
         Part::BackTo => &[line!(To=Form(Form::BackTo) Savepoint Name=Name)],
         Part::Created => &[

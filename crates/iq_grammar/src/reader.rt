@@ -3,16 +3,17 @@ ghost use Rattle.std.specs.Prelude.{◌≡◌, ◌++◌, IfOk, map, option_map};
 ghost use Rattle.std.specs.Prelude.{ℕ, Ok, Err, length};
 ghost use Rattle.iq_tokens.specs.Tokens.{tokens_of, lexemes};
 ghost use Rattle.iq_grammar.specs.Statements.{IsFaultOf};
+ghost use Rattle.iq_grammar.specs.Directives.{IsDirectiveFault, directs};
 ghost use Rattle.iq_grammar.specs.declared.draft.Draft.{Draft as TheDraft};
 ghost use Rattle.iq_grammar.specs.Draft.{empty};
-ghost use Rattle.iq_grammar.specs.Reading.{run, Gives, statement, IsSpelled};
+ghost use Rattle.iq_grammar.specs.Reading.{run, Gives, whole_of, directive, Spells, IsSpelled};
 ghost use Rattle.iq_grammar.specs.Grammar as spec;
 ghost use Rattle.iq_grammar.specs.Grammar.{Moves, the_line};
 
 use crate::draft::Draft;
 use crate::faults::ParseFault;
 use crate::grammar::{Line, Part, Role, Symbol, lines, may_lack};
-use iq_tokens::{Cut, Kind, Token, is_same, next_token};
+use iq_tokens::{Cut, Kind, Lexeme, Token, is_same, next_token};
 use std::alloc::{AllocError, Global};
 use std::collections::LinkedList;
 
@@ -27,6 +28,13 @@ fn beginning(kind: Kind, mut lines: &[Line]) -> Option<Line>
         lines = rest;
     }
     None
+}
+
+/// Whether a token begins a directive.
+pub fn begins_directive(lexeme: &Lexeme) -> bool
+    ensures { result ≡ directs lexeme.now }
+{
+    beginning(lexeme.kind(), lines(Part::Directive)).is_some()
 }
 
 /// The symbols with others before them.
@@ -99,11 +107,11 @@ fn can_end(mut symbols: LinkedList<Symbol>) -> bool
 }
 
 #[tactic(auto, unfolding(crate::specs::Reading::run, crate::specs::Reading::next))]
-fn reading(alloc: Global, text: &[u8]) -> Result<Draft, ParseFault>
-    ensures { Gives result (run (length text.now) empty statement (tokens_of text.now)) }
+fn reading(alloc: Global, text: &[u8], whole: Part) -> Result<Draft, ParseFault>
+    ensures { Gives result (run (length text.now) empty (whole_of whole) (tokens_of text.now)) }
 {
     let mut symbols = LinkedList::new(alloc);
-    symbols.push_back(Symbol::Go(Part::Statement))?;
+    symbols.push_back(Symbol::Go(whole))?;
     symbols.push_back(Symbol::Go(Part::End))?;
     let mut draft = Draft::new(alloc);
     let mut at = 0;
@@ -125,11 +133,20 @@ fn reading(alloc: Global, text: &[u8]) -> Result<Draft, ParseFault>
     })
 }
 
-/// The draft that a text spells, or the place of its fault.
+/// The draft of the statement that a text spells, or the place of its fault.
 pub fn read(alloc: Global, text: &[u8]) -> Result<Draft, ParseFault>
     ensures found { IfOk result (IsSpelled (lexemes (tokens_of text.now))) }
     ensures only { (d : TheDraft) → IsSpelled (lexemes (tokens_of text.now)) d → Gives result (Ok d) }
     ensures place { (place : ℕ) → result ≡ Err (ParseFault.Syntax place) → IsFaultOf text.now place }
 {
-    reading(alloc, text)
+    reading(alloc, text, Part::Statement)
+}
+
+/// The draft of the directive that a text spells, or the place of its fault.
+pub fn read_directive(alloc: Global, text: &[u8]) -> Result<Draft, ParseFault>
+    ensures found { IfOk result (Spells empty directive (lexemes (tokens_of text.now))) }
+    ensures only { (d : TheDraft) → Spells empty directive (lexemes (tokens_of text.now)) d → Gives result (Ok d) }
+    ensures place { (place : ℕ) → result ≡ Err (ParseFault.Syntax place) → IsDirectiveFault text.now place }
+{
+    reading(alloc, text, Part::Directive)
 }

@@ -1,8 +1,12 @@
-//! Tests of the language: statements of `iq_parse` and scripts of `iq_script`, read from texts that were written by hand.
+//! Tests of the language: statements of `iq_grammar` and scripts of `iq_script`, read from texts that were written by hand.
 //!
-//! No clause says that a call succeeds where memory is ample: the texts here go up to the size that the grammar allows.
+//! No clause says that a call succeeds where memory is ample: the texts here go up to the limits of the language.
 #![tactic(auto)]
 
+#[cfg(test)]
+mod faults;
+#[cfg(test)]
+mod limits;
 #[cfg(test)]
 mod scripts;
 #[cfg(test)]

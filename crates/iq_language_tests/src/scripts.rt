@@ -1,128 +1,119 @@
 //! Scripts, and what is read of them.
-use iq_model::Script;
-use iq_script::{MOST_BYTES, read_script};
+use iq_script::{MOST_BYTES, read_any_script};
 use std::alloc::{AllocError, Global};
+use std::process::Abort;
 use std::test::Fail;
 
-/// Bytes of scripts, and the numbers of the lines that are read of each, or the refusal.
-const SCRIPTS: [(&[u8], &str); 21] = [
-    (b"", ""),
-    (b"\n", ""),
-    (b"\n\n", ""),
-    (b"\r\n \t\r\n", ""),
-    (b"--", ""),
-    (b"-- \xff\0\n \t-- x\r\n", ""),
-    (b"SELECT x FROM t", " 1"),
-    (b"SELECT x FROM t\n", " 1"),
-    (b"SELECT x FROM t\r", " 1"),
-    (b"\n--\nSELECT x FROM t;\r\n\r\n  SELECT y FROM t\n", " 3 5"),
-    (b"DROP TABLE t", "ScriptFault { line: 1, cause: Unbuilt }"),
+/// Bytes of scripts, and what is read of their nodes, sessions and lines.
+const SCRIPTS: [(&[u8], &str); 17] = [
+    (b"", "c Coordinator; s 0 0;"),
     (
-        b"SELECT x FROM t\nDROP TABLE t\nSELECT x FROM t",
-        "ScriptFault { line: 2, cause: Unbuilt }",
+        b"\n\r\n \t\r\n-- \xff\0\n \t-- x\r\n--",
+        "c Coordinator; s 0 0;",
     ),
-    (b"\n\nDROP\nDROP", "ScriptFault { line: 3, cause: Unbuilt }"),
+    (b"SYNC", "c Coordinator; s 0 1; 1 Some(0) Statement(Sync)"),
     (
-        b"SELECT x FROM t\r\r\n",
-        "ScriptFault { line: 1, cause: Unbuilt }",
+        b"sync ; \r",
+        "c Coordinator; s 0 1; 1 Some(0) Statement(Sync)",
     ),
     (
-        b"SELECT x\rFROM t\n",
-        "ScriptFault { line: 1, cause: Unbuilt }",
+        b"\n--\nCOMMIT;\r\n\r\n  S:rollback\n",
+        "c Coordinator; s 0 2; 3 Some(0) Statement(Commit) 5 Some(0) Statement(Rollback)",
     ),
-    (b"\r\r\n", "ScriptFault { line: 1, cause: Unbuilt }"),
     (
-        b"SELECT x FROM\nt\n",
-        "ScriptFault { line: 1, cause: Unbuilt }",
+        b"SPACE\nAPPLY C;\nTAKE 4294967295\nLOSE -0",
+        "c Coordinator; s 0 0; 1 None Step(Space) 2 None Step(Apply(c)) 3 None Step(Take(4294967295)) 4 None Step(Lose(0))",
     ),
-    (b";\n", "ScriptFault { line: 1, cause: Unbuilt }"),
-    (b"-\n", "ScriptFault { line: 1, cause: Unbuilt }"),
-    (b"- - x\n", "ScriptFault { line: 1, cause: Unbuilt }"),
     (
-        b"NODE c COORDINATOR\n",
-        "ScriptFault { line: 1, cause: Unbuilt }",
+        b"REPORT r\nRESTART r\nVERSIONS",
+        "c Coordinator; s 0 0; 1 None Step(Report(r)) 2 None Step(Restart(r)) 3 None Step(Versions)",
+    ),
+    (
+        b"alter multiplex server r status excluded\nALTER MULTIPLEX SERVER r STATUS INCLUDED;",
+        "c Coordinator; s 0 0; 1 None Step(Exclude(r)) 2 None Step(Include(r))",
+    ),
+    (b"NODE x COORDINATOR", "x Coordinator;"),
+    (
+        b"node x coordinator;\nSESSION a ON x\nNODE y WRITER\nNODE z READER\nSESSION b ON z\nSESSION d ON y",
+        "x Coordinator; y Writer; z Reader; a 0 0; b 2 0; d 1 0;",
+    ),
+    (
+        b"NODE x COORDINATOR\nSESSION a ON x\nSESSION b ON x\nb: SYNC\nSYNC\nb: BEGIN TRANSACTION\nSPACE",
+        "x Coordinator; a 0 1; b 0 2; 4 Some(1) Statement(Sync) 5 Some(0) Statement(Sync) 6 Some(1) Statement(Begin) 7 None Step(Space)",
+    ),
+    (
+        b"LOAD TABLE t ROWS 2\n1,a\r\n\n-- x",
+        "c Coordinator; s 0 1; 1 Some(0) Statement(Write(Load { table: t, rows: 2, text: Listed { items: [49, 44, 97, 13, 10, 10] } }))",
+    ),
+    (
+        b"s: LOAD TABLE t ROWS 1\n\xff",
+        "c Coordinator; s 0 1; 1 Some(0) Statement(Write(Load { table: t, rows: 1, text: Listed { items: [255] } }))",
+    ),
+    (
+        b"LOAD TABLE t ROWS 1\nNODE\nSYNC",
+        "c Coordinator; s 0 2; 1 Some(0) Statement(Write(Load { table: t, rows: 1, text: Listed { items: [78, 79, 68, 69, 10] } })) 3 Some(0) Statement(Sync)",
+    ),
+    (
+        b"LOAD TABLE t ROWS 1\nLOAD TABLE t ROWS 9\nSYNC",
+        "c Coordinator; s 0 2; 1 Some(0) Statement(Write(Load { table: t, rows: 1, text: Listed { items: [76, 79, 65, 68, 32, 84, 65, 66, 76, 69, 32, 116, 32, 82, 79, 87, 83, 32, 57, 10] } })) 3 Some(0) Statement(Sync)",
+    ),
+    (
+        b"SAVEPOINT coordinators\nRELEASE SAVEPOINT failover",
+        "c Coordinator; s 0 2; 1 Some(0) Statement(Savepoint(coordinators)) 2 Some(0) Statement(Release(failover))",
+    ),
+    (
+        b"DELETE FROM t WHERE x = 'a''b'",
+        "c Coordinator; s 0 1; 1 Some(0) Statement(Write(Delete { table: t, cond: Some(Test(Compare { column: x, op: Eq, value: Text(a'b) })) }))",
     ),
 ];
 
-fn numbers(alloc: Global, script: &Script) -> Result<String, AllocError> {
+fn shown(alloc: Global, bytes: &[u8]) -> Result<String, AllocError> {
     let mut text = String::new(alloc);
-    for line in script.lines.as_slice() {
-        let number = format!(in alloc; " {}", line.number)?;
-        text.push_str(number.as_str())?;
+    if bytes.len() > MOST_BYTES {
+        return Ok(text);
+    }
+    match read_any_script(alloc, bytes) {
+        Err(refusal) => text.push_str(format!(in alloc; "{refusal:?}")?.as_str())?,
+        Ok(script) => {
+            for node in script.nodes.as_slice() {
+                text.push_str(format!(in alloc;
+                    "{} {:?}; ",
+                    node.name.as_str(),
+                    node.kind
+                )?.as_str())?;
+            }
+            for session in script.sessions.as_slice() {
+                text.push_str(format!(in alloc;
+                    "{} {} {}; ",
+                    session.name.as_str(),
+                    session.node,
+                    session.lines
+                )?
+                .as_str())?;
+            }
+            for line in script.lines.as_slice() {
+                text.push_str(format!(in alloc;
+                    "{} {:?} {:?} ",
+                    line.number, line.session, line.deed
+                )?.as_str())?;
+            }
+        }
     }
     Ok(text)
 }
 
-fn shown(alloc: Global, bytes: &[u8]) -> Result<String, AllocError> {
-    if bytes.len() > MOST_BYTES {
-        return String::from_str(alloc, "too long");
-    }
-    match read_script(alloc, bytes) {
-        Ok(script) => numbers(alloc, &script),
-        Err(refusal) => format!(in alloc; "{refusal:?}"),
-    }
-}
-
-#[test]
-fn lines_are_numbered_and_the_first_fault_is_named(rt: HostRuntime) -> Result<(), Fail> {
-    for (bytes, numbers) in SCRIPTS {
+fn are_read<R: Abort + AllocGlobal>(rt: &R, table: &[(&[u8], &str)]) -> Result<(), Fail> {
+    for (bytes, script) in table {
         let read = shown(rt.alloc(), bytes)?;
-        assert_eq!(rt; read.as_str(), numbers);
+        assert!(rt;
+            read.as_str().trim_end() == *script,
+            "{script} is read as {read}"
+        );
     }
     Ok(())
 }
 
 #[test]
-fn a_script_has_one_node_one_session_and_its_statements(rt: HostRuntime) -> Result<(), Fail> {
-    let read = match read_script(rt.alloc(), b"-- rows\nSELECT COUNT(*) FROM t\n") {
-        Ok(script) => format!(in rt.alloc(); "{script:?}")?,
-        Err(refusal) => format!(in rt.alloc(); "{refusal:?}")?,
-    };
-    let script =
-        "Script { nodes: Listed { items: [NodeSpec { name: c, kind: Coordinator }] }, sessions: Listed { items: [SessionSpec { name: s, node: 0, lines: 1 }] }, lines: Listed { items: [Line { number: 2, session: Some(0), deed: Statement(Select(Select { explain: false, items: Listed { items: [CountAll] }, table: t, cond: None, group: Listed { items: [] }, order: Listed { items: [] } })) }] } }";
-    assert_eq!(rt; read.as_str(), script);
-    Ok(())
-}
-
-#[test]
-fn the_65th_line_and_a_line_of_4097_bytes_are_faults(rt: HostRuntime) -> Result<(), Fail> {
-    let mut text = String::from_str(rt.alloc(), "-- one\n\n")?;
-    for _ in 0..64 {
-        text.push_str("SELECT x FROM t\n")?;
-    }
-    let read = shown(rt.alloc(), text.as_bytes())?;
-    assert!(rt;
-        read.as_str().ends_with(" 65 66"),
-        "64 lines are read as {read}"
-    );
-    text.push_str("\n-- two\nSELECT x FROM t")?;
-    let read = shown(rt.alloc(), text.as_bytes())?;
-    assert_eq!(rt; read.as_str(), "ScriptFault { line: 69, cause: Unbuilt }");
-    let mut long = String::from_str(rt.alloc(), "SELECT x FROM t")?;
-    for _ in 15..4_096 {
-        long.push(' ')?;
-    }
-    let most = format!(in rt.alloc(); "{long}\r\n{long}")?;
-    let read = shown(rt.alloc(), most.as_bytes())?;
-    assert_eq!(rt; read.as_str(), " 1 2");
-    let more = format!(in rt.alloc(); "-- {long}\n{long}\n{long} \n")?;
-    let read = shown(rt.alloc(), more.as_bytes())?;
-    assert_eq!(rt; read.as_str(), "ScriptFault { line: 3, cause: Unbuilt }");
-    Ok(())
-}
-
-#[test]
-fn a_script_of_64_lines_of_4096_bytes_is_read(rt: HostRuntime) -> Result<(), Fail> {
-    let mut text = String::new(rt.alloc());
-    for _ in 0..64 {
-        text.push_str("INSERT INTO t VALUES  (7)")?;
-        for _ in 1..1_018 {
-            text.push_str(",(7)")?;
-        }
-        text.push_str("   \n")?;
-    }
-    assert_eq!(rt; text.len(), 64 * 4_097);
-    let read = shown(rt.alloc(), text.as_bytes())?;
-    assert!(rt; read.as_str().ends_with(" 62 63 64"), "read as {read}");
-    Ok(())
+fn a_script_is_read_with_its_nodes_sessions_lines_and_data(rt: HostRuntime) -> Result<(), Fail> {
+    are_read(&rt, &SCRIPTS)
 }

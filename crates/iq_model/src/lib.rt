@@ -13,4 +13,4 @@ mod scripts;
 pub use answer_rows::AnswerRows;
 pub use answers::{Answer, Freed, NodeVersion, Out, Sent, Versions, out_of};
 pub use replies::{Reply, Said};
-pub use scripts::{Deed, Line, Script, Step};
+pub use scripts::{Deed, Line, MOST_LINES, Script, Step};

@@ -2,6 +2,9 @@
 use iq_ast::Statement;
 use iq_base::{Listed, Name, NodeSpec, SessionSpec};
 
+/// The most lines of a script beside empty ones, comments and the data of a LOAD.
+pub const MOST_LINES: usize = 100_000;
+
 /// A step of the multiplex itself, which belongs to no session.
 #[derive(Debug, Drop)]
 pub enum Step {

@@ -1,7 +1,7 @@
 -- Where nothing failed, all was done, or memory was wanting.
 use Rattle.std.proofs.Common.{◌≡◌, ℕ, List, refl, sym, ◌∙◌, arith, inl, inr}
 use Rattle.iq_outside.specs.Faults.{RoseWithin}
-use Rattle.iq_script.proofs.ScriptLaws.{script_or_fault}
+use Rattle.iq_script.proofs.ScriptLaws.{run_or_refused}
 use Rattle.iq_run.specs.declared.ends.EndCause.{EndCause}
 use Rattle.iq_run.specs.declared.ends.EndCause.TheVariants as ends
 use Rattle.iq_model.specs.declared.scripts.Script.{Script}
@@ -35,7 +35,7 @@ pub complete_of : (words : List (List ℕ)) (status : ℕ) (i : Input) (o err : 
 complete_of words status i o err ends.Done met reported = λ command bytes script gives steady. inl (own_status ends.Done status err steady.errors reported 0 refl)
 complete_of words status i o err ends.Usage met reported = λ command bytes script gives steady. absurd (met.command command)
 complete_of words status i o err (ends.ScriptFault line cause) met reported = λ command bytes script gives steady.
-    absurd (script_or_fault bytes script line cause gives.is (met.unread.is bytes gives.told))
+    absurd (run_or_refused bytes script line cause gives.is (met.unread.is bytes gives.told))
 complete_of words status i o err (ends.ReadFault before after) met reported = λ command bytes script gives steady.
     absurd (no_rise i.first before after i.last steady.source met.unread)
 complete_of words status i o err (ends.OutFault before after) met reported = λ command bytes script gives steady.

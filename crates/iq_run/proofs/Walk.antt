@@ -46,7 +46,7 @@ run_more first p q lines i line reply rs is lt runs ends number placed =
     pushed [] = refl
     pushed (x ∷ xs) = ap (λ (ns : List ℕ). x.line ∷ ns) (pushed xs)
 
--- what is left behind a place of lines of the grammar is of the grammar
+-- what is left behind a place of lines that are run is run
 pub grammar_more : (lines : List Line) (i : ℕ) → i < length lines → AllByRecursion IsRunnableLine (drop i lines) → AllByRecursion IsRunnableLine (drop (i + 1) lines)
 grammar_more lines zero lt all = first lines lt all
   where

@@ -3,7 +3,7 @@ use Rattle.std.specs.Prelude.{◌≡◌, ◌+◌, ◌≤◌, ◌<◌, ◌⊎◌,
 use Rattle.iq_model.specs.declared.scripts.Script.{Script}
 use Rattle.iq_outside.specs.Faults.{RoseWithin}
 use Rattle.iq_outside.specs.Whole.{IsLongerThan, TakesAtMost, TakesExactly}
-use Rattle.iq_script.specs.Scripts.{IsScriptOf, IsFirstFault}
+use Rattle.iq_script.specs.Scripts.{IsRunScriptOf, IsRefused}
 use Rattle.iq_script.specs.declared.faults.LineFault.{LineFault}
 use Rattle.iq_script.specs.declared.scripts.TheConstants.{MOST_BYTES}
 use Rattle.iq_run.specs.declared.ends.EndCause.{EndCause}
@@ -13,14 +13,15 @@ use Rattle.iq_run.specs.Streams.{Input, Output, IsReadWhole, IsUntouched, IsUnwr
 use Rattle.iq_run.specs.Runs.{WroteTranscript, WroteFront}
 use Rattle.iq_run.specs.Reports.{IsReported}
 
--- where the source tells what was to come, that was this script, and not too long
+-- where the source tells what was to come, that was this script, which is run, and not too long
 pub record IsScriptFrom (left : Option (List ℕ)) (script : Script) : Type 0 where
-  pub is : (bytes : List ℕ) → left ≡ Some bytes → IsScriptOf bytes script
+  pub is : (bytes : List ℕ) → left ≡ Some bytes → IsRunScriptOf bytes script
   pub short : (bytes : List ℕ) → left ≡ Some bytes → length bytes ≤ MOST_BYTES
 
--- where the source tells what was to come, that line is the first that is faulty, for this cause, and the script not too long
+-- where the source tells what was to come, that line is the first that is faulty, for this cause, or, where none is, the first that
+-- isn't run today; and the script isn't too long
 pub record IsFaultFrom (left : Option (List ℕ)) (line : ℕ) (cause : LineFault) : Type 0 where
-  pub is : (bytes : List ℕ) → left ≡ Some bytes → IsFirstFault bytes line cause
+  pub is : (bytes : List ℕ) → left ≡ Some bytes → IsRefused bytes line cause
   pub short : (bytes : List ℕ) → left ≡ Some bytes → length bytes ≤ MOST_BYTES
 
 -- why no script was read: its first faulty line, a fault of the source, too many bytes, or want of memory
@@ -111,10 +112,10 @@ pub record AreSteady (i : Input) (o err : Output) : Type 0 where
 -- the source tells that it gives this script, which isn't too long
 pub record Gives (i : Input) (bytes : List ℕ) (script : Script) : Type 0 where
   pub told : i.left ≡ Some bytes
-  pub is : IsScriptOf bytes script
+  pub is : IsRunScriptOf bytes script
   pub short : length bytes ≤ MOST_BYTES
 
--- What follows: with words of the grammar, a script of the grammar that is told and not too long, and no count that rose, all
+-- What follows: with words of the grammar, a script that is run and told and not too long, and no count that rose, all
 -- was done, or memory was wanting.
 abbrev pub IsComplete : List (List ℕ) → ℕ → Input → Output → Output → Type 0
 IsComplete words status i o err =

@@ -6,13 +6,13 @@ use iq_outside::Device;
 use iq_script::{LineFault, ScriptRefusal};
 
 /// Why a run ended, with the numbers that show it.
-#[derive(Clone, Copy, Debug, PartialEq, Eq)]
+#[derive(Debug, Drop)]
 pub enum EndCause {
     /// The whole script was read and run, and the whole transcript written.
     Done,
     /// The words aren't of the grammar.
     Usage,
-    /// The first faulty line, counted from 1, and what is wrong with it.
+    /// The first faulty line, counted from 1, and what is wrong with it; or that it isn't run today, where no line is faulty.
     ScriptFault { line: u32, cause: LineFault },
     /// The script's source failed: its count of faults rose from the one number to the other.
     ReadFault { before: u64, after: u64 },

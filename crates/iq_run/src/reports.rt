@@ -2,13 +2,14 @@
 ghost use Rattle.std.specs.Prelude.{◌≡◌, ◌≤◌, ◌+◌, ◌++◌, codes, length};
 ghost use Rattle.std.specs.Fmt.{decimal};
 ghost use Rattle.arrayvec.specs.ArrayString.{array_string_len};
+ghost use Rattle.iq_script.specs.Faults.{field_text};
 ghost use Rattle.iq_run.specs.Reports.{report_text, IsReported};
 ghost use Rattle.iq_run.specs.Streams.{output};
 
 use crate::ends::EndCause;
 use arrayvec::ArrayString;
 use iq_outside::{Sink, write_all};
-use iq_script::LineFault;
+use iq_script::{FaultField, LineFault};
 use itoa::Buffer;
 
 /// A line for standard error, which takes no memory.
@@ -35,7 +36,7 @@ fn line_of(met: &EndCause) -> Line
         EndCause::Usage => text(
             "usage: iqmux STORE format --blocks N | step | threads [--seed N] | make [--seed N] [--rows N]\n",
         ),
-        EndCause::ScriptFault { line, cause } => fault_line(*line, *cause),
+        EndCause::ScriptFault { line, cause } => fault_line(*line, cause),
         EndCause::ReadFault { before, after } => counts_line("iqmux: read fault ", *before, *after),
         EndCause::OutFault { before, after } => counts_line("iqmux: write fault ", *before, *after),
         EndCause::NoMemory => text("iqmux: no memory\n"),
@@ -53,15 +54,35 @@ fn text(text: &str) -> Line
     line
 }
 
-fn fault_line(number: u32, cause: LineFault) -> Line
-    ensures { result.bytes ≡ report_text (EndCause.ScriptFault number cause) }
+fn fault_line(number: u32, cause: &LineFault) -> Line
+    ensures { result.bytes ≡ report_text (EndCause.ScriptFault number cause.now) }
 {
     let mut line = text("iqmux: line ");
     push_number(&mut line, u64::from(number));
     line.push_str(" ");
     line.push_str(cause.name());
+    push_field(&mut line, cause.field());
     line.push_str("\n");
     line
+}
+
+/// A blank, and the place or the name that a fault tells.
+fn push_field(line: &mut Line, field: FaultField)
+    requires { array_string_len line.old + 50 ≤ 160 }
+    ensures bytes { line.new.bytes ≡ line.old.bytes ++ field_text field }
+    ensures short { array_string_len line.new ≤ array_string_len line.old + 50 }
+{
+    match field {
+        FaultField::Nothing => {}
+        FaultField::Place(place) => {
+            line.push_str(" ");
+            push_number(line, place as u64);
+        }
+        FaultField::Named(name) => {
+            line.push_str(" ");
+            line.push_str(name.as_str());
+        }
+    }
 }
 
 /// What failed, and the two counts of faults.

@@ -1,245 +1,228 @@
--- Reading the lines of a script one by one, and the laws about scripts and faults.
-use Rattle.std.proofs.Common.{◌≡◌, ℕ, ◌+◌, ◌<◌, ◌≤◌, Bool, true, false, List, [], ◌∷◌, ◌++◌, length, refl, sym, ap, subst, ◌∙◌, append_assoc, ⊎_elim, ◌⊎◌, arith, inl, inr}
-use Rattle.std.specs.Prelude.{MatchBool, filter}
-use Rattle.std.specs.List.{AllZip, AllByRecursion}
-use Rattle.std.proofs.lemmas.Bool.{cases_Bool}
-use Rattle.std.proofs.lemmas.List.{length-append}
+-- The laws about scripts and faults.
+use Rattle.std.proofs.Common.{◌≡◌, ℕ, zero, suc, ◌+◌, ◌<◌, Bool, true, false, List, [], ◌∷◌, Option, Some, None, Result, Ok, Err, refl, sym, ap, subst, ◌∙◌, ◌⊎◌, inl, inr, drop, arith}
+use Rattle.std.specs.Prelude.{MatchBool}
+use Rattle.std.specs.List.{AllByRecursion}
 use Rattle.iq_ast.specs.declared.statements.Statement.{Statement as TheStatement}
-use Rattle.iq_model.specs.declared.scripts.Deed.{Deed}
-use Rattle.iq_model.specs.declared.scripts.Deed.TheVariants.{Statement, Step}
 use Rattle.iq_model.specs.declared.scripts.Line.{Line}
 use Rattle.iq_model.specs.declared.scripts.Script.{Script}
-use Rattle.iq_model.specs.Scripts.{the_session, IsDeedOfGrammar, IsRunnableLine, Ascend, IsRunnable, HasFewDeedTuples}
-use Rattle.iq_script.proofs.Tuples.{few_tuples}
-use Rattle.iq_parse.specs.Grammar.{IsStatementOf, IsOff}
-use Rattle.iq_parse.proofs.Steps.{some_is}
-use Rattle.iq_parse.proofs.StatementLaws.{read_only}
+use Rattle.iq_model.specs.Scripts.{IsRunnableLine}
+use Rattle.iq_grammar.specs.declared.directives.Directive.{Directive as TheDirective}
+use Rattle.iq_grammar.specs.Statements.{statement_of, IsStatementOf}
+use Rattle.iq_grammar.specs.Directives.{directive_of, IsDirectiveOf}
+use Rattle.iq_grammar.proofs.Laws.{spells_one, directive_one, read_or_faulty, one_faulty, directive_or_faulty, directive_one_faulty}
 use Rattle.iq_script.specs.declared.faults.LineFault.{LineFault}
-use Rattle.iq_script.specs.declared.faults.LineFault.TheVariants.{Unbuilt}
-use Rattle.iq_script.specs.declared.faults.ScriptRefusal.{ScriptRefusal}
-use Rattle.iq_script.specs.declared.faults.ScriptRefusal.TheVariants.{ScriptFault, NoMemory}
-use Rattle.iq_script.specs.Lines.{Numbered, line_of, pieces_of, without_cr, numbered, is_doing, doing_lines}
-use Rattle.iq_script.specs.Scripts.{IsDeedOf, IsLineOf, IsScriptOf, HasStatement, IsFault, IsFirstFault, IsCause, IsPut, IsPutIfDoing, IsRefused, IsLineCause}
+use Rattle.iq_script.specs.declared.faults.LineFault.TheVariants.{TooManyLines, NotUtf8, Syntax, LateDeclaration, NoCoordinator, SecondCoordinator, NodeTwice, TooManyNodes, SessionTwice, UnknownNode, TooManySessions, UnknownSession, ShortLoad, Unbuilt}
+use Rattle.iq_script.specs.declared.pieces.Front.{Front}
+use Rattle.iq_script.specs.declared.pieces.Front.TheVariants as fronts
+use Rattle.iq_script.specs.declared.pieces.Piece.{Piece}
+use Rattle.iq_script.specs.declared.pieces.Piece.TheVariants.{Statement, Directive}
+use Rattle.iq_script.specs.declared.reading.Reading.{Reading}
+use Rattle.iq_script.specs.Lines.{lines_of, text_of, is_doing}
+use Rattle.iq_script.specs.Pieces.{front_of, Says, Fails}
+use Rattle.iq_script.specs.Putting.{Onward, on, put}
+use Rattle.iq_script.specs.Scripts.{start, LeadsOn, Leads, IsMisplaced, IsWrong, IsNotUtf8, IsFault, LeadTo, Stops, script_of, IsScriptOf, IsFirstFault, IsFirstUnbuilt, IsUnbuiltAt, IsRunScriptOf, IsRefused}
 
--- the lines that do something among pieces that are numbered from n
-abbrev pub doing_from : ℕ → List (List ℕ) → List Numbered
-doing_from n pieces = filter (λ (line : Numbered). is_doing line.text) (numbered n pieces)
+-- ---- what a line says
 
--- these lines have been read, and the rest of the bytes begins with the line after this number
-pub record IsSoFar (bytes rest : List ℕ) (number : ℕ) (lines : List Line) : Type 0 where
-  pub before : List Numbered
-  pub place : doing_lines bytes ≡ before ++ doing_from (number + 1) (pieces_of rest)
-  pub each : AllZip IsLineOf before lines
-  pub few : length lines ≤ 64
-  pub left : number + length rest ≤ length bytes
+same_statement : (text : List ℕ) (s t : TheStatement) → IsStatementOf text s → IsStatementOf text t → s ≡ t
+same_statement text s t p q = sym p.is ∙ ap statement_of (spells_one _ p.draft q.draft p.spelled q.spelled) ∙ q.is
 
--- ---- lists of lines
+same_directive : (text : List ℕ) (s t : TheDirective) → IsDirectiveOf text s → IsDirectiveOf text t → s ≡ t
+same_directive text s t p q = sym p.is ∙ ap directive_of (directive_one _ p.draft q.draft p.spelled q.spelled) ∙ q.is
 
-zip_length : (ds : List Numbered) (lines : List Line) → AllZip IsLineOf ds lines → length ds ≡ length lines
-zip_length [] [] h = refl
-zip_length [] (l ∷ ls) h = absurd h
-zip_length (d ∷ ds) [] h = absurd h
-zip_length (d ∷ ds) (l ∷ ls) h = let e = zip_length ds ls h.1 in omega arith
+statement_piece : (a b : Option (List ℕ)) (s t : TheStatement) → a ≡ b → s ≡ t → Statement a s ≡ Statement b t
+statement_piece a b s t e f = λ i. Statement (e i) (f i)
 
-zip_push : (ds : List Numbered) (lines : List Line) (d : Numbered) (l : Line) → AllZip IsLineOf ds lines → IsLineOf d l → AllZip IsLineOf (ds ++ d ∷ []) (lines ++ l ∷ [])
-zip_push [] [] d l h is = (is, tt)
-zip_push [] (m ∷ ls) d l h is = absurd h
-zip_push (e ∷ ds) [] d l h is = absurd h
-zip_push (e ∷ ds) (m ∷ ls) d l h is = (h.0, zip_push ds ls d l h.1 is)
+says_one : (f : Front) (text : List ℕ) (p q : Piece) → Says f text p → Says f text q → p ≡ q
+says_one (fronts.Session x) text (Statement a s) (Statement b t) h k = statement_piece a b s t (h.0 ∙ sym k.0) (same_statement (drop x.bytes text) s t h.1 k.1)
+says_one (fronts.Session x) text (Statement a s) (Directive d) h k = absurd k
+says_one (fronts.Session x) text (Directive d) q h k = absurd h
+says_one fronts.Directive text (Statement a s) q h k = absurd h
+says_one fronts.Directive text (Directive d) (Statement b t) h k = absurd k
+says_one fronts.Directive text (Directive d) (Directive e) h k = ap (λ (x : TheDirective). Directive x) (same_directive text d e h k)
+says_one fronts.Statement text (Statement a s) (Statement b t) h k = statement_piece a b s t (h.0 ∙ sym k.0) (same_statement text s t h.1 k.1)
+says_one fronts.Statement text (Statement a s) (Directive d) h k = absurd k
+says_one fronts.Statement text (Directive d) q h k = absurd h
 
-deed_good : (text : List ℕ) (deed : Deed) → IsDeedOf text deed → (s : TheStatement) × IsStatementOf text s
-deed_good text (Statement s) h = (s, h)
-deed_good text (Step step) h = absurd h
+says_or_fails : (f : Front) (text : List ℕ) (p : Piece) (place : ℕ) → Says f text p → Fails f text place → ⊥
+says_or_fails (fronts.Session x) text (Statement a s) place h k = read_or_faulty _ _ h.1.draft k.within h.1.spelled k.fault
+says_or_fails (fronts.Session x) text (Directive d) place h k = h
+says_or_fails fronts.Directive text (Statement a s) place h k = h
+says_or_fails fronts.Directive text (Directive d) place h k = directive_or_faulty _ _ h.draft place h.spelled k
+says_or_fails fronts.Statement text (Statement a s) place h k = read_or_faulty _ _ h.1.draft place h.1.spelled k
+says_or_fails fronts.Statement text (Directive d) place h k = h
 
-zip_good : (ds : List Numbered) (lines : List Line) → AllZip IsLineOf ds lines → AllByRecursion HasStatement ds
-zip_good [] [] h = tt
-zip_good [] (l ∷ ls) h = absurd h
-zip_good (d ∷ ds) [] h = absurd h
-zip_good (d ∷ ds) (l ∷ ls) h = (deed_good d.text l.deed h.0.deed, zip_good ds ls h.1)
+fails_one : (f : Front) (text : List ℕ) (m n : ℕ) → Fails f text m → Fails f text n → m ≡ n
+fails_one (fronts.Session x) text m n h k = h.is ∙ ap (λ (w : ℕ). x.bytes + w) (one_faulty _ _ h.within k.within h.fault k.fault) ∙ sym k.is
+fails_one fronts.Directive text m n h k = directive_one_faulty _ _ m n h k
+fails_one fronts.Statement text m n h k = one_faulty _ _ m n h k
 
-deed_built : (text : List ℕ) (deed : Deed) → IsDeedOf text deed → IsDeedOfGrammar deed
-deed_built text (Statement s) h = h.spells.built
-deed_built text (Step step) h = absurd h
+-- ---- one line leads to one reading
 
-deed_few : (text : List ℕ) (deed : Deed) → IsDeedOf text deed → HasFewDeedTuples deed
-deed_few text (Statement s) h = few_tuples text s h
-deed_few text (Step step) h = absurd h
+abbrev ok_of : Result Onward LineFault → Option Onward
+ok_of (Ok x) = Some x
+ok_of (Err e) = None
 
-zip_runnable : (ds : List Numbered) (lines : List Line) → AllZip IsLineOf ds lines → AllByRecursion IsRunnableLine lines
-zip_runnable [] [] h = tt
-zip_runnable [] (l ∷ ls) h = absurd h
-zip_runnable (d ∷ ds) [] h = absurd h
-zip_runnable (d ∷ ds) (l ∷ ls) h = (record { session = h.0.session; deed = deed_built d.text l.deed h.0.deed; tuples = deed_few d.text l.deed h.0.deed }, zip_runnable ds ls h.1)
+abbrev err_of : Result Onward LineFault → Option LineFault
+err_of (Ok x) = None
+err_of (Err e) = Some e
 
--- ---- one turn of the loop
+some_is : {A : Type 0} (x y : A) → Some x ≡ Some y → x ≡ y
+some_is x y h = cc
 
--- the line of the first piece, if it does something, and the lines behind it
-first_doing : (rest behind piece : List ℕ) (n : ℕ) → pieces_of rest ≡ piece ∷ pieces_of behind → is_doing (without_cr piece) ≡ true
-    → doing_from n (pieces_of rest) ≡ line_of n (without_cr piece) ∷ doing_from (n + 1) (pieces_of behind)
-first_doing rest behind piece n cut h = ap (doing_from n) cut ∙ rw h refl
+no_some : {A : Type 0} (x : A) → Some x ≡ None → ⊥
+no_some x h = cc
 
-first_idle : (rest behind piece : List ℕ) (n : ℕ) → pieces_of rest ≡ piece ∷ pieces_of behind → is_doing (without_cr piece) ≡ false
-    → doing_from n (pieces_of rest) ≡ doing_from (n + 1) (pieces_of behind)
-first_idle rest behind piece n cut h = ap (doing_from n) cut ∙ rw h refl
+same_ok : (p : Result Onward LineFault) (a b : Onward) → p ≡ Ok a → p ≡ Ok b → a ≡ b
+same_ok p a b h k = some_is a b (ap ok_of (sym h ∙ k))
 
-turn : (bytes rest behind piece : List ℕ) (number : ℕ) (old new : List Line) (doing : Bool) → is_doing (without_cr piece) ≡ doing
-    → pieces_of rest ≡ piece ∷ pieces_of behind → length behind < length rest → MatchBool doing (IsPut (line_of (number + 1) (without_cr piece)) old new) (new ≡ old)
-    → IsSoFar bytes rest number old → IsSoFar bytes behind (number + 1) new
-turn bytes rest behind piece number old new false h cut less is so_far =
-    let left : number + length rest ≤ length bytes = so_far.left in
-    record {
-      before = so_far.before;
-      place = so_far.place ∙ ap (λ (ls : List Numbered). so_far.before ++ ls) (first_idle rest behind piece (number + 1) cut h);
-      each = subst (λ (ls : List Line). AllZip IsLineOf so_far.before ls) (sym is) so_far.each;
-      few = subst (λ (ls : List Line). length ls ≤ 64) (sym is) so_far.few;
-      left = omega arith;
-    }
-turn bytes rest behind piece number old new true h cut less is so_far =
-    let left : number + length rest ≤ length bytes = so_far.left in
-    let line = line_of (number + 1) (without_cr piece) in
-    let few : length (old ++ is.line ∷ []) ≤ 64 = omega (arith, is.few, length-append old (is.line ∷ [])) in
-    record {
-      before = so_far.before ++ line ∷ [];
-      place = so_far.place ∙ ap (λ (ls : List Numbered). so_far.before ++ ls) (first_doing rest behind piece (number + 1) cut h) ∙ sym (append_assoc so_far.before (line ∷ []) (doing_from (number + 1 + 1) (pieces_of behind)));
-      each = subst (λ (ls : List Line). AllZip IsLineOf (so_far.before ++ line ∷ []) ls) (sym is.put) (zip_push so_far.before old line is.line so_far.each is.is);
-      few = subst (λ (ls : List Line). length ls ≤ 64) (sym is.put) few;
-      left = omega arith;
-    }
+same_err : (p : Result Onward LineFault) (x y : LineFault) → p ≡ Err x → p ≡ Err y → x ≡ y
+same_err p x y h k = some_is x y (ap err_of (sym h ∙ k))
 
-pub goes_on : (bytes rest behind piece text : List ℕ) (number : ℕ) (old new : List Line) → text ≡ without_cr piece → pieces_of rest ≡ piece ∷ pieces_of behind
-    → length behind < length rest → IsPutIfDoing (line_of (number + 1) text) old new → IsSoFar bytes rest number old → IsSoFar bytes behind (number + 1) new
-goes_on bytes rest behind piece text number old new e cut less is so_far =
-    turn bytes rest behind piece number old new (is_doing (without_cr piece)) refl cut less (subst (λ (t : List ℕ). IsPutIfDoing (line_of (number + 1) t) old new) e is) so_far
+ok_or_err : (p : Result Onward LineFault) (a : Onward) (x : LineFault) → p ≡ Ok a → p ≡ Err x → ⊥
+ok_or_err p a x h k = no_some a (ap ok_of (sym h ∙ k))
 
--- a fault is one behind as many lines
-fault_behind : (cause : LineFault) (n m : ℕ) (text : List ℕ) → m ≡ n → IsFault cause n text → IsFault cause m text
-fault_behind Unbuilt n m text same = ⊎_elim (λ (e : n ≡ 64). inl (same ∙ e)) (λ (off : IsOff text). inr off)
+text_one : (n : ℕ) (text : List ℕ) (behind : List (List ℕ)) (old : Reading) (a b : Onward) → LeadsOn n text behind old a → LeadsOn n text behind old b → a ≡ b
+text_one n text behind old a b h k =
+    let same = says_one (front_of text) text h.piece k.piece h.says k.says in
+    same_ok (put n k.piece behind old) a b (subst (λ (p : Piece). put n p behind old ≡ Ok a) same h.put) k.put
 
-fault_is : (bytes rest behind piece : List ℕ) (number : ℕ) (old : List Line) (cause : LineFault) → pieces_of rest ≡ piece ∷ pieces_of behind
-    → IsRefused (line_of (number + 1) (without_cr piece)) old cause → IsSoFar bytes rest number old → IsFirstFault bytes (number + 1) cause
-fault_is bytes rest behind piece number old cause cut is so_far =
-    let long = zip_length so_far.before old so_far.each in
-    record {
-      before = so_far.before;
-      text = without_cr piece;
-      behind = doing_from (number + 1 + 1) (pieces_of behind);
-      place = so_far.place ∙ ap (λ (ls : List Numbered). so_far.before ++ ls) (first_doing rest behind piece (number + 1) cut is.doing);
-      good = zip_good so_far.before old so_far.each;
-      few = omega (arith, so_far.few, long);
-      fault = fault_behind cause (length old) (length so_far.before) (without_cr piece) long is.fault;
-    }
+line_one : (n : ℕ) (line : List ℕ) (behind : List (List ℕ)) (old : Reading) (a b : Onward) → Leads n line behind old a → Leads n line behind old b → a ≡ b
+line_one n line behind old a b h k = by_doing (is_doing (text_of line)) h k
+  where
+    by_doing : (d : Bool) → MatchBool d (LeadsOn n (text_of line) behind old a) (a ≡ on old 0) → MatchBool d (LeadsOn n (text_of line) behind old b) (b ≡ on old 0) → a ≡ b
+    by_doing true h k = text_one n (text_of line) behind old a b h k
+    by_doing false h k = h ∙ sym k
 
-pub refused : (bytes rest behind piece text : List ℕ) (number : ℕ) (old : List Line) (e : ScriptRefusal) → text ≡ without_cr piece → pieces_of rest ≡ piece ∷ pieces_of behind
-    → IsLineCause (line_of (number + 1) text) old e → IsSoFar bytes rest number old → IsCause bytes e
-refused bytes rest behind piece text number old NoMemory is cut h so_far = tt
-refused bytes rest behind piece text number old (ScriptFault line cause) is cut h so_far =
-    let there : IsRefused (line_of (number + 1) (without_cr piece)) old cause = subst (λ (t : List ℕ). IsRefused (line_of (number + 1) t) old cause) is h.0 in
-    subst (λ (n : ℕ). IsFirstFault bytes n cause) (sym h.1) (fault_is bytes rest behind piece number old cause cut there so_far)
+doing_leads : (n : ℕ) (line : List ℕ) (behind : List (List ℕ)) (old : Reading) (a : Onward) → is_doing (text_of line) ≡ true → Leads n line behind old a → LeadsOn n (text_of line) behind old a
+doing_leads n line behind old a doing h = subst (λ (d : Bool). MatchBool d (LeadsOn n (text_of line) behind old a) (a ≡ on old 0)) doing h
 
--- ---- the whole script
+-- ---- one cause
 
--- numbers of lines that do something ascend, where those of the lines behind the first do
-ascend_first : (n low : ℕ) (piece : List ℕ) (pieces : List (List ℕ)) (lines : List Line) → low < n → is_doing (without_cr piece) ≡ true
-    → ((k l : ℕ) (ls : List Line) → l < k → AllZip IsLineOf (doing_from k pieces) ls → Ascend l ls) → AllZip IsLineOf (doing_from n (piece ∷ pieces)) lines → Ascend low lines
-ascend_first n low piece pieces [] less doing others h = tt
-ascend_first n low piece pieces (l ∷ ls) less doing others h =
-    let there : AllZip IsLineOf (line_of n (without_cr piece) ∷ doing_from (n + 1) pieces) (l ∷ ls) = rw doing at h in
-    let is : l.number ≡ n = there.0.number in
-    (omega arith, others (n + 1) l.number ls (omega arith) there.1)
+-- the four kinds of faults
+abbrev Kinds : LineFault → ℕ → List ℕ → List (List ℕ) → Reading → Type 0
+Kinds x n text behind old =
+    ((x ≡ TooManyLines) × (old.taken ≡ 100000)) ⊎ (((x ≡ NotUtf8) × IsNotUtf8 text old) ⊎ (((place : ℕ) × (x ≡ Syntax place) × IsWrong place text old) ⊎ IsMisplaced x n text behind old))
 
--- numbers of lines that do something ascend
-ascend : (n low : ℕ) (pieces : List (List ℕ)) (lines : List Line) → low < n → AllZip IsLineOf (doing_from n pieces) lines → Ascend low lines
-ascend n low [] [] less h = tt
-ascend n low [] (l ∷ ls) less h = absurd h
-ascend n low (piece ∷ pieces) lines less h =
-    elim (cases_Bool (is_doing (without_cr piece))) [
-      | inl doing ↦ ascend_first n low piece pieces lines less doing (λ k l ls lt g. ascend k l pieces ls lt g) h
-      | inr idle ↦ ascend (n + 1) low pieces lines (omega arith) (rw idle at h)
-    ]
+kinds : (x : LineFault) (n : ℕ) (text : List ℕ) (behind : List (List ℕ)) (old : Reading) → IsFault x n text behind old → Kinds x n text behind old
+kinds TooManyLines n text behind old h = inl (refl, h)
+kinds NotUtf8 n text behind old h = inr (inl (refl, h))
+kinds (Syntax place) n text behind old h = inr (inr (inl (place, refl, h)))
+kinds LateDeclaration n text behind old h = inr (inr (inr h))
+kinds NoCoordinator n text behind old h = inr (inr (inr h))
+kinds SecondCoordinator n text behind old h = inr (inr (inr h))
+kinds (NodeTwice name) n text behind old h = inr (inr (inr h))
+kinds TooManyNodes n text behind old h = inr (inr (inr h))
+kinds (SessionTwice name) n text behind old h = inr (inr (inr h))
+kinds (UnknownNode name) n text behind old h = inr (inr (inr h))
+kinds TooManySessions n text behind old h = inr (inr (inr h))
+kinds (UnknownSession name) n text behind old h = inr (inr (inr h))
+kinds ShortLoad n text behind old h = inr (inr (inr h))
+kinds Unbuilt n text behind old h = absurd h
 
-pub is_runnable : (bytes : List ℕ) (script : Script) → IsScriptOf bytes script → IsRunnable script
-is_runnable bytes script is = record {
-  nodes = is.nodes;
-  sessions = is.sessions;
-  few = is.lines.few;
-  numbers = ascend 1 0 (pieces_of bytes) script.lines (omega arith) is.lines.each;
-  each = zip_runnable (doing_lines bytes) script.lines is.lines.each;
-}
+full : (n : ℕ) → n < 100000 → n ≡ 100000 → ⊥
+full n less is = absurd (omega arith)
 
--- ---- a text spells one statement, and bytes are one script
+kinds_one : (n : ℕ) (text : List ℕ) (behind : List (List ℕ)) (old : Reading) (x y : LineFault) → Kinds x n text behind old → Kinds y n text behind old → x ≡ y
+kinds_one n text behind old x y (inl h) (inl k) = h.0 ∙ sym k.0
+kinds_one n text behind old x y (inl h) (inr (inl k)) = absurd (full old.taken k.1.room h.1)
+kinds_one n text behind old x y (inl h) (inr (inr (inl k))) = absurd (full old.taken k.2.room h.1)
+kinds_one n text behind old x y (inl h) (inr (inr (inr k))) = absurd (full old.taken k.room h.1)
+kinds_one n text behind old x y (inr (inl h)) (inl k) = absurd (full old.taken h.1.room k.1)
+kinds_one n text behind old x y (inr (inl h)) (inr (inl k)) = h.0 ∙ sym k.0
+kinds_one n text behind old x y (inr (inl h)) (inr (inr (inl k))) = absurd (h.1.not_utf8 k.2.utf8)
+kinds_one n text behind old x y (inr (inl h)) (inr (inr (inr k))) = absurd (h.1.not_utf8 k.utf8)
+kinds_one n text behind old x y (inr (inr (inl h))) (inl k) = absurd (full old.taken h.2.room k.1)
+kinds_one n text behind old x y (inr (inr (inl h))) (inr (inl k)) = absurd (k.1.not_utf8 h.2.utf8)
+kinds_one n text behind old x y (inr (inr (inl h))) (inr (inr (inl k))) = h.1 ∙ ap (λ (p : ℕ). Syntax p) (fails_one (front_of text) text h.0 k.0 h.2.fault k.2.fault) ∙ sym k.1
+kinds_one n text behind old x y (inr (inr (inl h))) (inr (inr (inr k))) = absurd (says_or_fails (front_of text) text k.piece h.0 k.says h.2.fault)
+kinds_one n text behind old x y (inr (inr (inr h))) (inl k) = absurd (full old.taken h.room k.1)
+kinds_one n text behind old x y (inr (inr (inr h))) (inr (inl k)) = absurd (k.1.not_utf8 h.utf8)
+kinds_one n text behind old x y (inr (inr (inr h))) (inr (inr (inl k))) = absurd (says_or_fails (front_of text) text h.piece k.0 h.says k.2.fault)
+kinds_one n text behind old x y (inr (inr (inr h))) (inr (inr (inr k))) =
+    let same = says_one (front_of text) text h.piece k.piece h.says k.says in
+    same_err (put n k.piece behind old) x y (subst (λ (p : Piece). put n p behind old ≡ Err x) same h.put) k.put
 
-same_deed : (text : List ℕ) (a b : Deed) → IsDeedOf text a → IsDeedOf text b → a ≡ b
-same_deed text (Statement s) (Statement t) h k = ap (λ (x : TheStatement). Statement x) (some_is s t (sym (read_only text s h) ∙ read_only text t k))
-same_deed text (Statement s) (Step step) h k = absurd k
-same_deed text (Step step) b h k = absurd h
+leads_or_kinds : (n : ℕ) (text : List ℕ) (behind : List (List ℕ)) (old : Reading) (a : Onward) (x : LineFault) → LeadsOn n text behind old a → Kinds x n text behind old → ⊥
+leads_or_kinds n text behind old a x h (inl k) = full old.taken h.room k.1
+leads_or_kinds n text behind old a x h (inr (inl k)) = k.1.not_utf8 h.utf8
+leads_or_kinds n text behind old a x h (inr (inr (inl k))) = says_or_fails (front_of text) text h.piece k.0 h.says k.2.fault
+leads_or_kinds n text behind old a x h (inr (inr (inr k))) =
+    let same = says_one (front_of text) text h.piece k.piece h.says k.says in
+    ok_or_err (put n k.piece behind old) a x (subst (λ (p : Piece). put n p behind old ≡ Ok a) same h.put) k.put
 
-same_line : (from : Numbered) (a b : Line) → IsLineOf from a → IsLineOf from b → a ≡ b
-same_line from a b h k =
-    let numbers = h.number ∙ sym k.number in
-    let sessions = h.session ∙ sym k.session in
-    let deeds = same_deed from.text a.deed b.deed h.deed k.deed in
-    λ i. record { number = numbers i; session = sessions i; deed = deeds i }
+fault_one : (n : ℕ) (text : List ℕ) (behind : List (List ℕ)) (old : Reading) (x y : LineFault) → IsFault x n text behind old → IsFault y n text behind old → x ≡ y
+fault_one n text behind old x y h k = kinds_one n text behind old x y (kinds x n text behind old h) (kinds y n text behind old k)
 
-same_lines : (ds : List Numbered) (xs ys : List Line) → AllZip IsLineOf ds xs → AllZip IsLineOf ds ys → xs ≡ ys
-same_lines [] [] [] h k = refl
-same_lines [] [] (b ∷ ys) h k = absurd k
-same_lines [] (a ∷ xs) ys h k = absurd h
-same_lines (d ∷ ds) [] ys h k = absurd h
-same_lines (d ∷ ds) (a ∷ xs) [] h k = absurd k
-same_lines (d ∷ ds) (a ∷ xs) (b ∷ ys) h k =
-    let firsts = same_line d a b h.0 k.0 in
-    let others = same_lines ds xs ys h.1 k.1 in
-    λ i. firsts i ∷ others i
+leads_or_fault : (n : ℕ) (line : List ℕ) (behind : List (List ℕ)) (old : Reading) (a : Onward) (x : LineFault) → is_doing (text_of line) ≡ true → Leads n line behind old a
+    → IsFault x n (text_of line) behind old → ⊥
+leads_or_fault n line behind old a x doing h k = leads_or_kinds n (text_of line) behind old a x (doing_leads n line behind old a doing h) (kinds x n (text_of line) behind old k)
+
+-- ---- all lines
+
+lead_one : (lines : List (List ℕ)) (n d : ℕ) (old a b : Reading) → LeadTo n d lines old a → LeadTo n d lines old b → a ≡ b
+lead_one [] n d old a b h k = sym h ∙ k
+lead_one (l ∷ ls) n (suc d) old a b h k = lead_one ls (n + 1) d old a b h k
+lead_one (l ∷ ls) n zero old a b h k =
+    let same = line_one n l ls old h.0 k.0 h.1 k.1 in
+    lead_one ls (n + 1) k.0.data_lines k.0.reading a b (subst (λ (x : Onward). LeadTo (n + 1) x.data_lines ls x.reading a) same h.2) k.2
+
+stops_one : (lines : List (List ℕ)) (n d : ℕ) (old : Reading) (a b : ℕ) (x y : LineFault) → Stops n d lines old a x → Stops n d lines old b y → (a ≡ b) × (x ≡ y)
+stops_one [] n d old a b x y h k = absurd h
+stops_one (l ∷ ls) n (suc d) old a b x y h k = stops_one ls (n + 1) d old a b x y h k
+stops_one (l ∷ ls) n zero old a b x y (inl h) (inl k) = (h.0 ∙ sym k.0, fault_one n (text_of l) ls old x y h.2 k.2)
+stops_one (l ∷ ls) n zero old a b x y (inl h) (inr k) = absurd (leads_or_fault n l ls old k.0 x h.1 k.1 h.2)
+stops_one (l ∷ ls) n zero old a b x y (inr h) (inl k) = absurd (leads_or_fault n l ls old h.0 y k.1 h.1 k.2)
+stops_one (l ∷ ls) n zero old a b x y (inr h) (inr k) =
+    let same = line_one n l ls old h.0 k.0 h.1 k.1 in
+    stops_one ls (n + 1) k.0.data_lines k.0.reading a b x y (subst (λ (z : Onward). Stops (n + 1) z.data_lines ls z.reading a x) same h.2) k.2
+
+lead_or_stop : (lines : List (List ℕ)) (n d : ℕ) (old a : Reading) (b : ℕ) (x : LineFault) → LeadTo n d lines old a → Stops n d lines old b x → ⊥
+lead_or_stop [] n d old a b x h k = k
+lead_or_stop (l ∷ ls) n (suc d) old a b x h k = lead_or_stop ls (n + 1) d old a b x h k
+lead_or_stop (l ∷ ls) n zero old a b x h (inl k) = leads_or_fault n l ls old h.0 x k.1 h.1 k.2
+lead_or_stop (l ∷ ls) n zero old a b x h (inr k) =
+    let same = line_one n l ls old h.0 k.0 h.1 k.1 in
+    lead_or_stop ls (n + 1) k.0.data_lines k.0.reading a b x (subst (λ (z : Onward). LeadTo (n + 1) z.data_lines ls z.reading a) same h.2) k.2
+
+-- ---- the laws
 
 pub one_script : (bytes : List ℕ) (a b : Script) → IsScriptOf bytes a → IsScriptOf bytes b → a ≡ b
-one_script bytes a b h k =
-    let lines = same_lines (doing_lines bytes) a.lines b.lines h.lines.each k.lines.each in
-    let nodes = h.nodes ∙ sym k.nodes in
-    let sessions = h.sessions ∙ ap (λ (ls : List Line). the_session (length ls) ∷ []) lines ∙ sym k.sessions in
-    λ i. record { nodes = nodes i; sessions = sessions i; lines = lines i }
+one_script bytes a b h k = h.is ∙ ap script_of (lead_one (lines_of bytes) 1 0 start h.end k.end h.lead k.lead) ∙ sym k.is
 
--- the line behind some that do something spells a statement, and so there are more lines than those
-zip_at : (before behind : List Numbered) (d : Numbered) (lines : List Line) → AllZip IsLineOf (before ++ d ∷ behind) lines → HasStatement d × (length before < length lines)
-zip_at [] behind d [] h = absurd h
-zip_at [] behind d (l ∷ ls) h = (deed_good d.text l.deed h.0.deed, omega arith)
-zip_at (b ∷ bs) behind d [] h = absurd h
-zip_at (b ∷ bs) behind d (l ∷ ls) h = let more = zip_at bs behind d ls h.1 in (more.0, omega (arith, more.1))
+pub script_or_fault : (bytes : List ℕ) (script : Script) (line : ℕ) (cause : LineFault) → IsScriptOf bytes script → IsFirstFault bytes line cause → ⊥
+script_or_fault bytes script line cause h k = lead_or_stop (lines_of bytes) 1 0 start h.end line cause h.lead k
 
--- a line of a script isn't faulty
-not_faulty : (cause : LineFault) (n : ℕ) (text : List ℕ) (s : TheStatement) → n < 64 → IsStatementOf text s → IsFault cause n text → ⊥
-not_faulty Unbuilt n text s few is = ⊎_elim (λ (e : n ≡ 64). absurd (omega arith)) (λ (off : IsOff text). off s is)
+first_one : (lines : List Line) (a b : ℕ) → IsFirstUnbuilt lines a → IsFirstUnbuilt lines b → a ≡ b
+first_one [] a b h k = absurd h
+first_one (l ∷ ls) a b (inl h) (inl k) = h.1 ∙ sym k.1
+first_one (l ∷ ls) a b (inl h) (inr k) = absurd (h.0 k.0)
+first_one (l ∷ ls) a b (inr h) (inl k) = absurd (k.0 h.0)
+first_one (l ∷ ls) a b (inr h) (inr k) = first_one ls a b h.1 k.1
 
-pub script_or_fault : (bytes : List ℕ) (script : Script) (number : ℕ) (cause : LineFault) → IsScriptOf bytes script → IsFirstFault bytes number cause → ⊥
-script_or_fault bytes script number cause is fault =
-    let zip = subst (λ (ds : List Numbered). AllZip IsLineOf ds script.lines) fault.place is.lines.each in
-    let more = zip_at fault.before fault.behind (line_of number fault.text) script.lines zip in
-    not_faulty cause (length fault.before) fault.text more.0.0 (omega (arith, more.1, is.lines.few)) more.0.1 fault.fault
+at_one : (o : Option ℕ) (lines : List Line) (a b : ℕ) → IsUnbuiltAt o lines a → IsUnbuiltAt o lines b → a ≡ b
+at_one (Some first) lines a b h k = h ∙ sym k
+at_one None lines a b h k = first_one lines a b h k
 
--- of two lines of one list, each with good ones before it and at fault itself, neither stands before the other
-same_place : (xs ys us vs : List Numbered) (d e : Numbered) (k : ℕ) → xs ++ d ∷ us ≡ ys ++ e ∷ vs → AllByRecursion HasStatement xs → AllByRecursion HasStatement ys
-    → length xs + k ≤ 64 → length ys + k ≤ 64 → (length xs + k ≡ 64) ⊎ IsOff d.text → (length ys + k ≡ 64) ⊎ IsOff e.text → d ≡ e
-same_place [] [] us vs d e k same good also few less h g = cc
-same_place [] (y ∷ ys) us vs d e k same good also few less h g =
-    let first : y ≡ d = cc in
-    ⊎_elim (λ (full : 0 + k ≡ 64). absurd (omega arith)) (λ (off : IsOff d.text). absurd (subst (λ (x : Numbered). IsOff x.text → ⊥) first (λ (o : IsOff y.text). o also.0.0 also.0.1) off)) h
-same_place (x ∷ xs) [] us vs d e k same good also few less h g =
-    let first : x ≡ e = cc in
-    ⊎_elim (λ (full : 0 + k ≡ 64). absurd (omega arith)) (λ (off : IsOff e.text). absurd (subst (λ (z : Numbered). IsOff z.text → ⊥) first (λ (o : IsOff x.text). o good.0.0 good.0.1) off)) g
-same_place (x ∷ xs) (y ∷ ys) us vs d e k same good also few less h g =
-    let rest : xs ++ d ∷ us ≡ ys ++ e ∷ vs = cc in
-    same_place xs ys us vs d e (k + 1) rest good.1 also.1 (omega arith) (omega arith)
-    (⊎_elim (λ (full : length (x ∷ xs) + k ≡ 64). inl (omega arith)) (λ (off : IsOff d.text). inr off) h)
-    (⊎_elim (λ (full : length (y ∷ ys) + k ≡ 64). inl (omega arith)) (λ (off : IsOff e.text). inr off) g)
+pub one_fault : (bytes : List ℕ) (a b : ℕ) (x y : LineFault) → IsRefused bytes a x → IsRefused bytes b y → (a ≡ b) × (x ≡ y)
+one_fault bytes a b x y (inl h) (inl k) = stops_one (lines_of bytes) 1 0 start a b x y h k
+one_fault bytes a b x y (inl h) (inr k) = absurd (lead_or_stop (lines_of bytes) 1 0 start k.1.end a x k.1.lead h)
+one_fault bytes a b x y (inr h) (inl k) = absurd (lead_or_stop (lines_of bytes) 1 0 start h.1.end b y h.1.lead k)
+one_fault bytes a b x y (inr h) (inr k) =
+    let same = lead_one (lines_of bytes) 1 0 start h.1.end k.1.end h.1.lead k.1.lead in
+    (at_one k.1.end.declared k.1.end.lines a b (subst (λ (r : Reading). IsUnbuiltAt r.declared r.lines a) same h.1.first) k.1.first, h.0 ∙ sym k.0)
 
--- what is faulty is so behind as many lines and none
-nothing_before : (cause : LineFault) (before : List Numbered) (text : List ℕ) → IsFault cause (length before) text → (length before + 0 ≡ 64) ⊎ IsOff text
-nothing_before Unbuilt before text = ⊎_elim (λ (full : length before ≡ 64). inl (omega arith)) (λ (off : IsOff text). inr off)
+run_or_first : (lines : List Line) (a : ℕ) → AllByRecursion IsRunnableLine lines → IsFirstUnbuilt lines a → ⊥
+run_or_first [] a h k = k
+run_or_first (l ∷ ls) a h (inl k) = k.0 h.0
+run_or_first (l ∷ ls) a h (inr k) = run_or_first ls a h.1 k.1
 
--- there is one cause yet
-same_cause : (x y : LineFault) → x ≡ y
-same_cause Unbuilt Unbuilt = refl
+run_or_at : (o : Option ℕ) (lines : List Line) (a : ℕ) → o ≡ None → AllByRecursion IsRunnableLine lines → IsUnbuiltAt o lines a → ⊥
+run_or_at (Some first) lines a none h k = let bad : Some first ≡ None = none in cc
+run_or_at None lines a none h k = run_or_first lines a h k
 
-pub one_fault : (bytes : List ℕ) (a b : ℕ) (x y : LineFault) → IsFirstFault bytes a x → IsFirstFault bytes b y → (a ≡ b) × (x ≡ y)
-one_fault bytes a b x y h g =
-    let same = same_place h.before g.before h.behind g.behind (line_of a h.text) (line_of b g.text) 0 (sym h.place ∙ g.place) h.good g.good (omega (arith, h.few)) (omega (arith, g.few)) (nothing_before x h.before h.text h.fault) (nothing_before y g.before g.text g.fault) in
-    (ap (λ (line : Numbered). line.number) same, same_cause x y)
+pub run_or_refused : (bytes : List ℕ) (script : Script) (line : ℕ) (cause : LineFault) → IsRunScriptOf bytes script → IsRefused bytes line cause → ⊥
+run_or_refused bytes script line cause h (inl k) = lead_or_stop (lines_of bytes) 1 0 start h.end line cause h.lead k
+run_or_refused bytes script line cause h (inr k) =
+    let same = lead_one (lines_of bytes) 1 0 start h.end k.1.end h.lead k.1.lead in
+    run_or_at h.end.declared h.end.lines line h.none h.each (subst (λ (r : Reading). IsUnbuiltAt r.declared r.lines line) (sym same) k.1.first)

@@ -1,6 +1,6 @@
 //! Laws about scripts and their faults.
 ghost use Rattle.std.specs.Prelude.{ℕ, List};
-ghost use Rattle.iq_script.specs.Scripts.{HasOneScript, HasOneFault, IsNotBoth};
+ghost use Rattle.iq_script.specs.Scripts.{HasOneScript, HasOneFault, IsNotBoth, IsRunOrRefused};
 
 /// Bytes are one script at most.
 pub fn one_script()
@@ -12,7 +12,12 @@ pub fn script_or_fault()
     ensures { (bytes : List ℕ) → IsNotBoth bytes }
 {}
 
-/// Bytes have one first fault at most.
+/// Bytes are refused for one line at most, and one cause.
 pub fn one_fault()
     ensures { (bytes : List ℕ) → HasOneFault bytes }
+{}
+
+/// Bytes of a script that is run are not refused.
+pub fn run_or_refused()
+    ensures { (bytes : List ℕ) → IsRunOrRefused bytes }
 {}

@@ -1,12 +1,12 @@
 //! Cuts bytes into lines.
-ghost use Rattle.std.specs.Prelude.{◌≡◌, ◌≢◌, ℕ, ◌<◌, ◌≤◌, ◌∷◌, length, not, nat_eq};
+ghost use Rattle.std.specs.Prelude.{◌≡◌, ℕ, ◌<◌, ◌≤◌, ◌∷◌, ◌++◌, length, not, nat_eq};
 ghost use Rattle.std.specs.List.{prefix_len};
 ghost use Rattle.iq_script.specs.Lines as spec;
 
-use iq_parse::is_space;
+use iq_tokens::is_space;
 
 /// How many bytes stand before the first LF.
-fn piece_len(bytes: &[u8]) -> usize
+fn text_len(bytes: &[u8]) -> usize
     ensures value { result ≡ prefix_len (λ (b : ℕ). not (nat_eq b 10)) bytes.now }
     ensures within { result ≤ length bytes.now }
 {
@@ -18,31 +18,38 @@ fn piece_len(bytes: &[u8]) -> usize
     bytes.len()
 }
 
-/// The piece up to the first LF, and the bytes after it.
-pub fn first_piece(bytes: &[u8]) -> (&[u8], &[u8])
+/// The first line with its LF, and the bytes behind it.
+pub fn first_line(bytes: &[u8]) -> (&[u8], &[u8])
     requires { 0 < length bytes.now }
-    ensures cut { spec.pieces_of bytes.now ≡ result.0.now ∷ spec.pieces_of result.1.now }
+    ensures cut { spec.lines_of bytes.now ≡ result.0.now ∷ spec.lines_of result.1.now }
+    ensures whole { bytes.now ≡ result.0.now ++ result.1.now }
     ensures shorter { length result.1.now < length bytes.now }
 {
-    let len = piece_len(bytes);
-    let piece = bytes.split_at(len).0;
+    let len = text_len(bytes);
     if len < bytes.len() {
-        (piece, bytes.split_at(len + 1).1)
+        bytes.split_at(len + 1)
     } else {
-        (piece, &[])
+        (bytes, &[])
     }
 }
 
-/// The piece without the CR at its end.
-pub fn without_cr(piece: &[u8]) -> &[u8]
-    ensures { result.now ≡ spec.without_cr piece.now }
+/// A line without this byte at its end.
+fn without_last(line: &[u8], byte: u8) -> &[u8]
+    ensures { result.now ≡ spec.without_last byte line.now }
 {
-    let len = piece.len();
-    if len > 0 && piece[len - 1] == b'\r' {
-        piece.split_at(len - 1).0
+    let len = line.len();
+    if len > 0 && line[len - 1] == byte {
+        line.split_at(len - 1).0
     } else {
-        piece
+        line
     }
+}
+
+/// The text of a line, without the LF at its end and a CR before that.
+pub fn text_of(line: &[u8]) -> &[u8]
+    ensures { result.now ≡ spec.text_of line.now }
+{
+    without_last(without_last(line, b'\n'), b'\r')
 }
 
 fn begins_comment(bytes: &[u8]) -> bool
@@ -51,11 +58,11 @@ fn begins_comment(bytes: &[u8]) -> bool
     bytes.starts_with(b"--")
 }
 
-/// Whether a line does something.
-pub fn is_doing(line: &[u8]) -> bool
-    ensures { result ≡ spec.is_doing line.now }
+/// Whether a line's text does something.
+pub fn is_doing(text: &[u8]) -> bool
+    ensures { result ≡ spec.is_doing text.now }
 {
-    let mut rest = line;
+    let mut rest = text;
     'spaces: while !rest.is_empty() {
         if is_space(rest[0]) {
             rest = rest.split_at(1).1;

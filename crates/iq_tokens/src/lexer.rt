@@ -9,7 +9,7 @@ ghost use Rattle.iq_tokens.specs.Tokens.{Cuts};
 use crate::numbers::signed;
 use crate::quotes::{Quoted, read_quoted};
 use crate::tokens::{Lexeme, Mark, Token};
-use crate::words::reserved;
+use crate::words::{MOST_NAME, reserved};
 use iq_base::Name;
 
 /// A token at the front of a text, and how many bytes it takes.
@@ -26,7 +26,8 @@ pub struct Cut {
     pub end: usize,
 }
 
-fn is_space(b: u8) -> bool
+/// Whether a byte is a space or a tab.
+pub fn is_space(b: u8) -> bool
     ensures { result ≡ spec.is_space b }
 {
     b == b' ' || b == b'\t'
@@ -65,9 +66,6 @@ fn digits_len(text: &[u8]) -> usize
     }
     text.len()
 }
-
-/// The longest name, in bytes.
-const MOST_NAME: usize = 30;
 
 /// A word in lower case, if it is no longer than a name.
 fn lowered(word: &[u8]) -> Option<Name>

@@ -12,5 +12,6 @@ mod quotes;
 mod tokens;
 mod words;
 
-pub use lexer::{Cut, next_token};
+pub use lexer::{Cut, is_space, next_token};
 pub use tokens::{Kind, Lexeme, Mark, Token, is_same};
+pub use words::is_name;

@@ -1,15 +1,17 @@
 //! Reserved words.
-ghost use Rattle.std.specs.Prelude.{◌≡◌, ◌↔◌, map, None, false};
-ghost use Rattle.iq_ast.specs.Words.{is_reserved};
+ghost use Rattle.std.specs.Prelude.{◌≡◌, ◌↔◌, map, None, false, IsTrue};
+ghost use Rattle.std.specs.List.{list_all};
+ghost use Rattle.iq_ast.specs.Words as words;
+ghost use Rattle.iq_ast.specs.Words.{is_reserved, IsWord, IsName};
 ghost use Rattle.iq_tokens.specs.Tokens as spec;
 
 use crate::tokens::Mark;
 
 /// The words that no name may be, each with its mark.
 pub const WORDS: [(&[u8], Mark); 70] = [
-    (b"alter", Mark::Other),
+    (b"alter", Mark::Alter),
     (b"and", Mark::And),
-    (b"apply", Mark::Other),
+    (b"apply", Mark::Apply),
     (b"asc", Mark::Asc),
     (b"begin", Mark::Begin),
     (b"between", Mark::Between),
@@ -18,20 +20,20 @@ pub const WORDS: [(&[u8], Mark); 70] = [
     (b"catalog", Mark::Other),
     (b"cmp", Mark::Cmp),
     (b"commit", Mark::Commit),
-    (b"coordinator", Mark::Other),
+    (b"coordinator", Mark::Coordinator),
     (b"count", Mark::Count),
     (b"create", Mark::Create),
     (b"delete", Mark::Delete),
     (b"desc", Mark::Desc),
     (b"drop", Mark::Drop),
-    (b"excluded", Mark::Other),
+    (b"excluded", Mark::Excluded),
     (b"explain", Mark::Explain),
     (b"from", Mark::From),
     (b"group", Mark::Group),
     (b"hg", Mark::Hg),
     (b"hng", Mark::Hng),
     (b"in", Mark::In),
-    (b"included", Mark::Other),
+    (b"included", Mark::Included),
     (b"index", Mark::Index),
     (b"inner", Mark::Other),
     (b"insert", Mark::Insert),
@@ -42,41 +44,41 @@ pub const WORDS: [(&[u8], Mark); 70] = [
     (b"join", Mark::Other),
     (b"lf", Mark::Lf),
     (b"load", Mark::Load),
-    (b"lose", Mark::Other),
+    (b"lose", Mark::Lose),
     (b"max", Mark::Max),
     (b"min", Mark::Min),
-    (b"multiplex", Mark::Other),
-    (b"node", Mark::Other),
+    (b"multiplex", Mark::Multiplex),
+    (b"node", Mark::Node),
     (b"not", Mark::Not),
     (b"null", Mark::Null),
     (b"on", Mark::On),
     (b"or", Mark::Or),
     (b"order", Mark::Order),
-    (b"reader", Mark::Other),
+    (b"reader", Mark::Reader),
     (b"release", Mark::Release),
-    (b"report", Mark::Other),
-    (b"restart", Mark::Other),
+    (b"report", Mark::Report),
+    (b"restart", Mark::Restart),
     (b"rollback", Mark::Rollback),
     (b"rows", Mark::Rows),
     (b"savepoint", Mark::Savepoint),
     (b"select", Mark::Select),
-    (b"server", Mark::Other),
-    (b"session", Mark::Other),
+    (b"server", Mark::Server),
+    (b"session", Mark::Session),
     (b"set", Mark::Set),
-    (b"space", Mark::Other),
-    (b"status", Mark::Other),
+    (b"space", Mark::Space),
+    (b"status", Mark::Status),
     (b"sum", Mark::Sum),
     (b"sync", Mark::Sync),
     (b"table", Mark::Table),
-    (b"take", Mark::Other),
+    (b"take", Mark::Take),
     (b"to", Mark::To),
     (b"transaction", Mark::Transaction),
     (b"update", Mark::Update),
     (b"values", Mark::Values),
     (b"varchar", Mark::Varchar),
-    (b"versions", Mark::Other),
+    (b"versions", Mark::Versions),
     (b"where", Mark::Where),
-    (b"writer", Mark::Other),
+    (b"writer", Mark::Writer),
 ];
 
 fn lookup(mut table: &[(&[u8], Mark)], word: &[u8]) -> Option<Mark>
@@ -98,4 +100,41 @@ pub fn reserved(word: &[u8]) -> Option<Mark>
     ensures none { (result ≡ None) ↔ (is_reserved word.now ≡ false) }
 {
     lookup(&WORDS, word)
+}
+
+/// The longest name, in bytes.
+pub const MOST_NAME: usize = 30;
+
+fn begins_word(byte: u8) -> bool
+    ensures { result ≡ words.begins_word byte }
+{
+    byte.is_ascii_lowercase() || byte == b'_'
+}
+
+fn is_in_word(byte: u8) -> bool
+    ensures { result ≡ words.is_in_word byte }
+{
+    begins_word(byte) || byte.is_ascii_digit()
+}
+
+fn are_in_word(bytes: &[u8]) -> bool
+    ensures { result ≡ list_all words.is_in_word bytes.now }
+{
+    bytes.iter().all(|byte| is_in_word(*byte))
+}
+
+fn is_word(bytes: &[u8]) -> bool
+    ensures { IsTrue result ↔ IsWord bytes.now }
+{
+    match bytes {
+        [] => false,
+        [first, rest @ ..] => begins_word(*first) && are_in_word(rest),
+    }
+}
+
+/// Whether the bytes are a name: a word in lower case of at most 30 bytes that isn't reserved.
+pub fn is_name(bytes: &[u8]) -> bool
+    ensures { IsTrue result ↔ IsName bytes.now }
+{
+    is_word(bytes) && bytes.len() <= MOST_NAME && reserved(bytes).is_none()
 }

@@ -1,12 +1,12 @@
-use Rattle.std.proofs.lemmas.Result.{err_from_is_err_and}
-use Rattle.iq_script.proofs.ScriptLaws.{goes_on, refused}
+use Rattle.iq_script.proofs.Loop.{passes, goes_on}
+use Rattle.std.proofs.Common.{◌≤◌, arith}
 use Rattle.iq_script.proofs.scripts.read_lines.Goals as goal
 
-pub returns-in_err-take_line-clause-fault : goal.returns-in_err-take_line-clause-fault
-returns-in_err-take_line-clause-fault c =
-    let p = err_from_is_err_and c.from_residual.result c.from_residual.ensures.1 in
-    rw (p.1, p.2) (refused c.args.bytes.now c.lines.rest.now c.first_piece.result.1.now c.first_piece.result.0.now c.without_cr.result.now c.lines.number c.lines.lines.items c.in_err-take_line.field-0.0 c.without_cr.ensures c.first_piece.ensures.cut c.in_err-take_line.ensures.fault c.lines.invariant)
+pub lines-preserved-then-data_lines-gt0 : goal.lines-preserved-then-data_lines-gt0
+lines-preserved-then-data_lines-gt0 c =
+    passes c.args.bytes.now c.lines.rest.now c.first_line.result.0.now c.first_line.result.1.now c.lines.number c.lines.data_lines c.lines.reading c.first_line.ensures.cut c.first_line.ensures.shorter c.if-data_lines-gt0.true c.lines.invariant
 
 pub lines-preserved : goal.lines-preserved
 lines-preserved c =
-    goes_on c.args.bytes.now c.lines.rest.now c.first_piece.result.1.now c.first_piece.result.0.now c.without_cr.result.now c.lines.number c.lines.lines.items c.take_line.new.lines.items c.without_cr.ensures c.first_piece.ensures.cut c.first_piece.ensures.shorter c.in_ok-take_line.ensures.ok c.lines.invariant
+    let none : c.lines.data_lines ≤ 0 = omega (arith, c.if-data_lines-gt0.false) in
+    goes_on c.args.bytes.now c.lines.rest.now c.first_line.result.0.now c.first_line.result.1.now c.lines.number c.lines.data_lines _ c.lines.reading c.take_line.new.reading c.first_line.ensures.cut c.first_line.ensures.shorter none c.in-Ok.ensures.ok c.lines.invariant
