@@ -52,7 +52,7 @@ where_begins : (d : Draft) (ss : List Symbol) (ts : List Lexeme) → reads d (Go
 unfolding run next after lines may_lack same same_mark put
 where_begins d ss ts = refl
 
-where_some : (cs : List Cond) (l : Level) → (cs ≡ [] → ⊥) → where_of cs l ≡ Some (whole l)
+pub where_some : (cs : List Cond) (l : Level) → (cs ≡ [] → ⊥) → where_of cs l ≡ Some (whole l)
 where_some [] l some = absurd (some refl)
 where_some (c ∷ cs) l some = refl
 

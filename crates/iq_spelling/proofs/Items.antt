@@ -36,7 +36,7 @@ use Rattle.iq_spelling.proofs.Parts.{reads, Behind, skip, more_reads, listed_rea
 abbrev pub with_columns : Draft → List Column → Draft
 with_columns d cs = record d { columns = cs }
 
-abbrev column : List ℕ → Kind → Bool → Column
+abbrev pub column : List ℕ → Kind → Bool → Column
 column n k b = record { name = n; kind = k; null = b }
 
 named_column : (d : Draft) (cs : List Column) (n : List ℕ) (ss : List Symbol) (ts : List Lexeme) → length cs < 32 → has_column cs n ≡ false
@@ -114,7 +114,7 @@ members_read d vs ls ss ts are =
     (λ s xs v a us is free b. (tt, ap (λ (l : List Lexeme). reads (record d { row = xs }) (Go part.MoreMembers ∷ ss) (word Comma ∷ (l ++ us))) is ∙ comma_member (record d { row = xs }) ss (literal v ∷ us) ∙ member_reads d xs v (Go part.MoreMembers ∷ ss) us))
     vs ls ts are (all_free [] vs) tt).1
 
-abbrev with_rows : Draft → List (List Value) → Draft
+abbrev pub with_rows : Draft → List (List Value) → Draft
 with_rows d rs = record d { rows = rs; row = [] }
 
 tuple_begins : (d : Draft) (rs : List (List Value)) (ss : List Symbol) (ts : List Lexeme)
@@ -153,7 +153,7 @@ unfolding run next after lines may_lack same same_mark put
 comma_column d ss ts = refl
 
 -- what stands behind a change: a comma, or what a change may be followed by
-abbrev with_changes : Draft → List ℕ → List Change → Draft
+abbrev pub with_changes : Draft → List ℕ → List Change → Draft
 with_changes d n cs = record d { changed = n; changes = cs }
 
 change_next : (d : Draft) (n : List ℕ) (cs : List Change) (m : List ℕ) (v : Value) (ss : List Symbol) (ts : List Lexeme) → has_change cs m ≡ false
@@ -180,7 +180,7 @@ change_reads d n cs c a ss ts is new =
 -- ---- items
 
 -- an aggregate of a draft may stay behind
-abbrev with_items : Draft → Aggregate → List Item → Draft
+abbrev pub with_items : Draft → Aggregate → List Item → Draft
 with_items d g is = record d { aggregate = g; items = is }
 
 item_reads : (d : Draft) (g : Aggregate) (is : List Item) (i : Item) (ss : List Symbol) (ts : List Lexeme)
@@ -213,7 +213,7 @@ items_read d g is ls ss ts are =
 
 -- ---- groups and orders
 
-abbrev with_group : Draft → List (List ℕ) → Draft
+abbrev pub with_group : Draft → List (List ℕ) → Draft
 with_group d ns = record d { group = ns }
 
 group_first : (d : Draft) (n : List ℕ) (ss : List Symbol) (ts : List Lexeme)
@@ -236,10 +236,10 @@ groups_read d n ns ls ss ts (a, b, first, more, is) =
     (λ s xs x c us say free b. (tt, ap (λ (l : List Lexeme). reads (with_group d xs) (Go part.MoreGroups ∷ ss) (word Comma ∷ (l ++ us))) say ∙ group_next d xs x ss us))
     tt (n ∷ []) ns b ts more (all_free (n ∷ []) ns) tt).1
 
-abbrev with_order : Draft → List Order → Draft
+abbrev pub with_order : Draft → List Order → Draft
 with_order d os = record d { order = os }
 
-abbrev ordered : List ℕ → Bool → Order
+abbrev pub ordered : List ℕ → Bool → Order
 ordered n b = record { column = n; desc = b }
 
 order_first : (d : Draft) (n : List ℕ) (ss : List Symbol) (ts : List Lexeme)

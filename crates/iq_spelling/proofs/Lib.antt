@@ -3,3 +3,9 @@ pub mod Items
 pub mod Tested
 pub mod Clauses
 pub mod Whole
+pub mod Apart
+pub mod Members
+pub mod ApartWrites
+pub mod ApartQueries
+pub mod ApartConditions
+pub mod ApartStatements

@@ -78,7 +78,7 @@ columns_read d c op.Gt r ss ts = refl
 columns_read d c op.Ge r ss ts = refl
 
 -- the column and NOT of a test, with a draft's other scratch
-abbrev tested : Draft → List ℕ → Bool → Draft
+abbrev pub tested : Draft → List ℕ → Bool → Draft
 tested d c b = record d { column = c; negated = b; row = [] }
 
 between_begins : (d : Draft) (c : List ℕ) (b : Bool) (ss : List Symbol) (ts : List Lexeme)
@@ -148,7 +148,7 @@ test_reads d (test.Null c b) ls ss ts is =
 
 -- ---- NOT, AND, OR and brackets
 
-not_more : (n : ℕ) (c : Cond) → not_times (n + 1) c ≡ not_times n (cond.Not c)
+pub not_more : (n : ℕ) (c : Cond) → not_times (n + 1) c ≡ not_times n (cond.Not c)
 not_more zero c = refl
 not_more (suc n) c = let next : suc n + 1 ≡ suc (n + 1) = omega arith in ap (λ k. not_times k c) next ∙ ap (λ (x : Cond). cond.Not x) (not_more n c)
 

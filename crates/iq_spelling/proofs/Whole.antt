@@ -245,6 +245,11 @@ query_behind : (IsBehind part.Where Group × IsBehind part.Where OrderMark × Is
 unfolding follow marks_behind same same_mark
 query_behind = ((refl, refl, refl), (refl, refl, refl), (refl, refl, refl), (refl, refl, refl, refl), (refl, refl, refl))
 
+-- the words of a SELECT, and what is behind them
+pub query_text : (b : Bool) (items : List Lexeme) (t : List ℕ) (ws gs os end : List Lexeme)
+    → (explain_words b ++ word Select ∷ (items ++ word From ∷ name t ∷ (ws ++ (gs ++ os)))) ++ end ≡ explain_words b ++ word Select ∷ (items ++ word From ∷ name t ∷ (ws ++ (gs ++ (os ++ end))))
+query_text b items t ws gs os end = simp append_assoc
+
 query_reads : (q : TheSelect) (ls end : List Lexeme) → IsQuery q ls → IsEnd end → Reaches (ls ++ end) (statement.Select q)
 unfolding statement_of
 query_reads q ls end says ends =
@@ -260,10 +265,7 @@ query_reads q ls end says ends =
     (behind_group part.MoreOr q.group q.order gs os end query_behind.2.0 query_behind.2.1 query_behind.2.2 says.is_group says.is_order ends) in
     let f = record e { level = here.level; column = here.scratch.column; op = here.scratch.op; negated = here.scratch.negated; low = here.scratch.low; row = here.scratch.row } in
     let text : ls ++ end ≡ explain_words q.explain ++ word Select ∷ (says.items ++ word From ∷ name q.table ∷ (ws ++ (gs ++ (os ++ end)))) =
-    ap (λ (l : List Lexeme). l ++ end) says.is
-    ∙ append_assoc (explain_words q.explain) (word Select ∷ (says.items ++ word From ∷ name q.table ∷ (ws ++ (gs ++ os)))) end
-    ∙ ap (λ (l : List Lexeme). explain_words q.explain ++ word Select ∷ l) (append_assoc says.items (word From ∷ name q.table ∷ (ws ++ (gs ++ os))) end)
-    ∙ ap (λ (l : List Lexeme). explain_words q.explain ++ word Select ∷ (says.items ++ word From ∷ name q.table ∷ l)) (append_assoc ws (gs ++ os) end ∙ ap (λ (l : List Lexeme). ws ++ l) (append_assoc gs os end)) in
+    ap (λ (l : List Lexeme). l ++ end) says.is ∙ query_text q.explain says.items q.table ws gs os end in
     record {
       draft = record f { group = q.group; order = q.order };
       goes = ap (λ (l : List Lexeme). reads empty whole_statement l) text ∙ select_begins q.explain (says.items ++ word From ∷ name q.table ∷ (ws ++ (gs ++ (os ++ end)))) ∙ listed.1 ∙ here.goes
