@@ -1,0 +1,5 @@
+pub mod Pushing
+pub mod CondForms
+pub mod StatementForms
+pub mod CondsSpelled
+pub mod StatementsSpelled
