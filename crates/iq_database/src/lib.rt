@@ -11,4 +11,4 @@ mod look_ups;
 
 pub use copies::{columns_of, copied};
 pub use laws::{a_database_stands_on_its_objects, what_stands_is_told};
-pub use look_ups::{before, place_of};
+pub use look_ups::{before, column_place, place_of};

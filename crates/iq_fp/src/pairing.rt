@@ -29,6 +29,7 @@ impl Fp {
         side: Side,
     ) -> Result<Bitmap, PageFault>
         requires { right.now.slots ≡ self.now.slots }
+        ensures long { IfOk result (λ bits. length bits ≡ self.now.slots) }
         ensures rows { IfOk result (ArePairsOn self.now right.now (S.told source.old) side op) }
         ensures reads { OnlyReads (all_pages self.now + all_pages right.now) (view S.PageSource source.old) (view S.PageSource source.new) }
         ensures cause { IfErr result (HasPairCause self.now right.now (view S.PageSource source.old) (view S.PageSource source.new)) }
@@ -52,7 +53,8 @@ fn pairs(
     requires right_long { length right.now.codes.items ≡ count }
     requires left { AreBelow left.now.codes.items (length left.now.known.values) }
     requires right { AreBelow right.now.codes.items (length right.now.known.values) }
-    ensures { let vs = decoded left.now.known.values left.now.codes.items in
+    ensures long { IfOk result (λ bits. length bits ≡ count) }
+    ensures pairs { let vs = decoded left.now.known.values left.now.codes.items in
         let ws = decoded right.now.known.values right.now.codes.items in
         IfOk result (λ bits. bits ≡ zip2 (is_pair side op) vs ws) }
 {

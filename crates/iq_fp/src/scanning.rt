@@ -29,6 +29,7 @@ impl Fp {
         test: &Test,
         side: Side,
     ) -> Result<Bitmap, PageFault>
+        ensures long { IfOk result (λ bits. length bits ≡ self.now.slots) }
         ensures rows { IfOk result (AreRowsOn self.now (S.told source.old) side test.now) }
         ensures reads { OnlyReads (all_pages self.now) (view S.PageSource source.old) (view S.PageSource source.new) }
         ensures cause { IfErr result (HasReadCause self.now (view S.PageSource source.old) (view S.PageSource source.new)) }
@@ -58,6 +59,7 @@ fn marked<S: PageSource>(
     hits: &[bool],
 ) -> Result<Bitmap, PageFault>
     requires { length hits.now ≡ fp.now.distinct }
+    ensures long { IfOk result (λ bits. length bits ≡ fp.now.slots) }
     ensures rows { IfOk result (AreMarked fp.now (S.told source.old) hits.now) }
     ensures reads { OnlyReads (pages_for (code_width fp.now.distinct) fp.now.slots) (view S.PageSource source.old) (view S.PageSource source.new) }
     ensures cause { IfErr result (HasReadCause fp.now (view S.PageSource source.old) (view S.PageSource source.new)) }
@@ -79,6 +81,7 @@ fn marked_in_width<S: PageSource, const W: usize>(
     requires narrow { (1 ≤ W) × (W ≤ 3) }
     requires width { W ≡ code_width fp.now.distinct }
     requires hits { length hits.now ≡ fp.now.distinct }
+    ensures long { IfOk result (λ bits. length bits ≡ fp.now.slots) }
     ensures rows { IfOk result (AreMarked fp.now (S.told source.old) hits.now) }
     ensures reads { OnlyReads (pages_for W fp.now.slots) (view S.PageSource source.old) (view S.PageSource source.new) }
     ensures cause { IfErr result (HasReadCause fp.now (view S.PageSource source.old) (view S.PageSource source.new)) }

@@ -1,7 +1,7 @@
 -- Where the shared state starts, and which lines it runs.
-use Rattle.std.specs.Prelude.{◌≡◌, refl, ℕ, Bool, true, false, List, [], ◌∷◌, None, length, filter, replicate, is_none, if◌then◌else◌}
+use Rattle.std.specs.Prelude.{◌≡◌, ◌≤◌, refl, ℕ, Bool, true, false, List, [], ◌∷◌, None, length, filter, replicate, is_none, if◌then◌else◌}
 use Rattle.std.specs.List.{AllByRecursion}
-use Rattle.std.proofs.Common.{ap, sym, ◌∙◌, subst, arith}
+use Rattle.std.proofs.Common.{ap, sym, ◌∙◌, subst, arith, Option, Some}
 use Rattle.iq_base.specs.Shorts.{Name}
 use Rattle.iq_base.specs.Locks.{catalog_name}
 use Rattle.iq_base.specs.declared.nodes.SessionSpec.{SessionSpec}
@@ -13,7 +13,9 @@ use Rattle.iq_ast.specs.declared.statements.Statement.TheVariants as statements
 use Rattle.iq_ast.specs.declared.statements.Write.{Write}
 use Rattle.iq_ast.specs.declared.statements.Write.TheVariants as writes
 use Rattle.iq_ast.specs.Words.{IsName, is_reserved, reserved}
-use Rattle.iq_ast.specs.Built.{IsWriteOfGrammar, IsPlainSelect, IsPlain, AreItems}
+use Rattle.iq_ast.specs.Built.{IsPlainWrite, IsPlainSelect, IsPlain, AreItems, IsOneTest}
+use Rattle.iq_ast.specs.declared.conditions.Cond.{Cond}
+use Rattle.iq_ast.specs.declared.conditions.Cond as conds
 use Rattle.iq_conditions.specs.Servers.{same_name}
 use Rattle.iq_model.specs.Scripts.{IsRunnable, IsRunnableLine, HasFewTuples}
 use Rattle.iq_model.specs.declared.scripts.Line.{Line}
@@ -28,7 +30,7 @@ use Rattle.iq_control.specs.Opened.{IsControllable, IsOpened}
 use Rattle.iq_control.proofs.Opened.{opened_follows}
 use Rattle.iq_memory.specs.declared.tables.MemoryTables.{MemoryTables}
 use Rattle.iq_memory.specs.Holding.{Hold}
-use Rattle.iq_query.specs.Simple.{IsSimple, IsSimpleList, IsColumnItem}
+use Rattle.iq_query.specs.Simple.{IsSimpleCondition, IsSimple, IsSimpleList, IsColumnItem}
 use Rattle.iq_plex.specs.declared.plex.Plex.{Plex}
 use Rattle.iq_plex.specs.Standing.{first_of, state_of, session_at, IsAttached, IsNext}
 use Rattle.iq_plex.specs.Doing.{Waits, CanRun}
@@ -54,10 +56,10 @@ no_steps (line ∷ lines) all = left_out (is_step line) (ap is_none all.0.sessio
 -- THE OPENING
 
 pub controllable : (script : Script) → IsRunnable script → IsControllable script
-controllable script h = record {
+controllable script h = let few : length script.lines ≤ 100000 = h.few in record {
   counted = rw h.sessions (sym (ap length (all_mine script.lines h.each)), tt);
   placed = rw (h.sessions, h.nodes) (omega arith, tt);
-  few = rw h.sessions (omega (arith, h.few));
+  few = rw h.sessions (omega (arith, few));
 }
 
 unmade : (c : ControlState) → c.entries ≡ [] → state_of c ≡ first_of c.script
@@ -96,12 +98,12 @@ no_catalog name is = by_same (same_name name catalog_name) refl
     by_same true same = let clash : true ≡ false = sym catalog_reserved ∙ ap is_reserved (sym (same_name-true name catalog_name same)) ∙ is.free in cc clash
     by_same false same = refl
 
-pub can_run : (write : Write) → IsWriteOfGrammar write → HasFewTuples (statements.Write write) → CanRun write
-can_run (writes.CreateTable name schema) h few = record { simple = h.1.few; named = no_catalog name h.0 }
-can_run (writes.DropTable name) h few = absurd h
+pub can_run : (write : Write) → IsPlainWrite write → HasFewTuples (statements.Write write) → CanRun write
+can_run (writes.CreateTable name schema) h few = record { simple = h.1; named = no_catalog name h.0 }
+can_run (writes.DropTable name) h few = record { simple = tt; named = no_catalog name h }
 can_run (writes.CreateIndex name kind table column second) h few = absurd h
 can_run (writes.DropIndex table name) h few = absurd h
-can_run (writes.Insert table rows) h few = record { simple = few; named = no_catalog table h.0 }
+can_run (writes.Insert table rows) h few = record { simple = few; named = no_catalog table h }
 can_run (writes.Load table rows text) h few = absurd h
 can_run (writes.Delete table cond) h few = absurd h
 can_run (writes.Update table changes cond) h few = absurd h
@@ -116,7 +118,7 @@ columns_of (items.Min name ∷ more) all = absurd all.0
 columns_of (items.Max name ∷ more) all = absurd all.0
 
 simple_list : (list : List Item) → AreItems list → IsSimpleList list
-simple_list [] h = absurd h
+simple_list [] h = tt
 simple_list (items.CountAll ∷ more) h = h
 simple_list (items.Plain name ∷ more) h = columns_of more h.1
 simple_list (items.Count name ∷ more) h = absurd h.0
@@ -124,8 +126,15 @@ simple_list (items.Sum name ∷ more) h = absurd h.0
 simple_list (items.Min name ∷ more) h = absurd h.0
 simple_list (items.Max name ∷ more) h = absurd h.0
 
+simple_condition : (cond : Option Cond) → IsOneTest cond → IsSimpleCondition cond
+simple_condition None h = tt
+simple_condition (Some (conds.Test test)) h = tt
+simple_condition (Some (conds.Not' shape members)) h = absurd h
+simple_condition (Some (conds.And' shape members)) h = absurd h
+simple_condition (Some (conds.Or' shape members)) h = absurd h
+
 pub simple : (select : Select) → IsPlainSelect select → IsSimple select
-simple select h = record { list = simple_list select.items h.items; answered = h.explain; all_rows = h.cond; not_grouped = h.group; not_ordered = h.order }
+simple select h = record { list = simple_list select.items h.items; answered = h.explain; condition = simple_condition select.cond h.cond; not_grouped = h.group; not_ordered = h.order }
 
 pub waits : (p : Plex) (line : Line) (st : Statement) → IsNext p line → line.deed ≡ deeds.Statement st → Waits p line.number st
 waits p line st h deed = record { line = line; rest = h.rest; replies = h.replies; between = h.between; is = record { number = refl; deed = deed } }

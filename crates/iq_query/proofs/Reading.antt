@@ -10,27 +10,29 @@ use Rattle.iq_cells.specs.Tables.{row_at}
 use Rattle.iq_chunks.specs.Chunks.{HasBitsCause}
 use Rattle.iq_table.specs.declared.table.Table.{Table}
 use Rattle.iq_table.specs.Places.{existence_of}
-use Rattle.iq_table.specs.Table.{TableStands, GivesAlive, GivesRows, values_at}
+use Rattle.iq_table.specs.Table.{TableStands, GivesRows, values_at}
 use Rattle.iq_table.specs.Calls.{HasRowsCause}
 use Rattle.iq_table.proofs.Readings.{rows_cause}
-use Rattle.iq_statements.specs.Tables.{Table as PlainTable, content}
+use Rattle.iq_ast.specs.declared.conditions.Test.{Test}
+use Rattle.iq_statements.specs.Tables.{Table as PlainTable}
 use Rattle.iq_database.specs.Standing.{StandsAt, slot_rows, slot_bits}
-use Rattle.iq_database.proofs.Slots.{content_by_place, content_counted}
-use Rattle.iq_query.specs.Calls.{AreWithin, HasTableCause}
+use Rattle.iq_database.proofs.Slots.{kept_by_place, kept_counted}
+use Rattle.iq_predicate.specs.Calls.{HasTableCause}
+use Rattle.iq_query.specs.Calls.{AreWithin, is_kept, chosen, is_chosen}
 
--- how many rows are there
-pub rows_counted : (table : Table) (told : ℕ → Option Pages) (t : PlainTable) (set : List Bool) → GivesAlive table told set → StandsAt told table.place table.parts t → count_by (λ on. on) set ≡ length (content t)
-rows_counted table told t set alive stands = ap (count_by (λ on. on)) (alive (slot_rows t) (slot_bits t) stands.holds) ∙ content_counted t
+-- how many rows are chosen
+pub rows_counted : (test : Option Test) (t : PlainTable) (set : List Bool) → set ≡ map (is_chosen t.columns test) t.slots → count_by (λ on. on) set ≡ length (chosen test t)
+rows_counted test t set are = ap (count_by (λ on. on)) are ∙ kept_counted (is_kept t.columns test) t
 
--- what was read of the rows that are there, of pages that are the same
-pub rows_read : (table : Table) (told told' : ℕ → Option Pages) (t : PlainTable) (places : List ℕ) (set : List Bool) (got : List (List Value)) → ((object : ℕ) → told' object ≡ told object)
-    → GivesAlive table told set → GivesRows table told' set places got → StandsAt told table.place table.parts t → got ≡ map (values_at places) (content t)
-rows_read table told told' t places set got same alive rows stands =
+-- what was read of the rows that are chosen, of pages that are the same
+pub rows_read : (table : Table) (told told' : ℕ → Option Pages) (test : Option Test) (t : PlainTable) (places : List ℕ) (set : List Bool) (got : List (List Value)) → ((object : ℕ) → told' object ≡ told object)
+    → set ≡ map (is_chosen t.columns test) t.slots → GivesRows table told' set places got → StandsAt told table.place table.parts t → got ≡ map (values_at places) (chosen test t)
+rows_read table told told' test t places set got same are rows stands =
     let there : TableStands told' table.place table.parts (slot_rows t) (slot_bits t) =
     subst (λ (pages : ℕ → Option Pages). TableStands pages table.place table.parts (slot_rows t) (slot_bits t)) (λ i object. sym (same object) i) stands.holds in
     rows (slot_rows t) (slot_bits t) there
-    ∙ ap (λ (bits : List Bool). map (λ (r : ℕ). values_at places (row_at r (slot_rows t))) (rows_from 0 bits)) (alive (slot_rows t) (slot_bits t) stands.holds)
-    ∙ content_by_place (values_at places) t
+    ∙ ap (λ (bits : List Bool). map (λ (r : ℕ). values_at places (row_at r (slot_rows t))) (rows_from 0 bits)) are
+    ∙ kept_by_place (values_at places) (is_kept t.columns test) t
 
 -- why bits or columns aren't read, as of the table
 pub bits_cause : (table : Table) (a d : Seen) (fault : PageFault) → HasBitsCause (existence_of table.place) table.parts.slots a d fault → HasTableCause table.place table.parts a d fault

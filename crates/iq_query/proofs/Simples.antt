@@ -1,5 +1,5 @@
 -- What a simple query answers, and what its tests find.
-use Rattle.std.proofs.Common.{◌≡◌, ◌<◌, ℕ, zero, suc, ◌+◌, Bool, true, false, List, [], ◌∷◌, ◌++◌, length, map, refl, sym, ◌∙◌, ap, subst, arith, Option, Some, None, cond, append-nil, append_assoc, not}
+use Rattle.std.proofs.Common.{◌≡◌, ◌<◌, ℕ, zero, suc, ◌+◌, Bool, true, false, List, [], ◌∷◌, ◌++◌, length, map, filter, refl, sym, ◌∙◌, ap, ap₂, subst, arith, Option, Some, None, cond, append-nil, append_assoc, not}
 use Rattle.std.specs.List.{slice_get, list_any, filter_map, position_or_len, AllByRecursion}
 use Rattle.std.specs.Option.{option_or}
 use Rattle.std.specs.Prelude.{nat_lt, is_none}
@@ -9,6 +9,14 @@ use Rattle.iq_base.specs.declared.values.Value.{Value}
 use Rattle.iq_base.specs.declared.schemas.Column.{Column}
 use Rattle.iq_base.specs.declared.refusals.Refusal.{Refusal}
 use Rattle.iq_base.specs.declared.refusals.Refusal.TheVariants as refusals
+use Rattle.iq_ast.specs.declared.conditions.Test.{Test}
+use Rattle.iq_ast.specs.declared.conditions.Cond.{Cond}
+use Rattle.iq_ast.specs.declared.conditions.Cond as conds
+use Rattle.iq_truth.specs.declared.truth.Side.TheVariants as sides
+use Rattle.iq_truth.specs.declared.truth.Truth.{Truth}
+use Rattle.iq_truth.specs.declared.truth.Truth.TheVariants as truths
+use Rattle.iq_truth.specs.Sides.{is_on}
+use Rattle.iq_truth.specs.Tests.{test_truth}
 use Rattle.iq_ast.specs.declared.statements.Item.{Item}
 use Rattle.iq_ast.specs.declared.statements.Item.TheVariants as items
 use Rattle.iq_ast.specs.declared.statements.Select.{Select}
@@ -17,22 +25,36 @@ use Rattle.iq_table.specs.Table.{values_at}
 use Rattle.iq_model.specs.declared.answers.Answer.TheVariants as answers
 use Rattle.iq_model.specs.declared.answers.Out.{Out}
 use Rattle.iq_model.specs.Outs.{out_of, outs_of}
+use Rattle.iq_conditions.specs.Conditions.{test_names}
 use Rattle.iq_conditions.specs.Servers.{same_name, column_place}
 use Rattle.iq_statements.specs.Checks.{first_refusal, first_found, found_if}
-use Rattle.iq_statements.specs.Rows.{kept_rows, value_or_null, put_in, in_order}
+use Rattle.iq_statements.specs.Rows.{value_named, is_true, kept_rows, value_or_null, put_in, in_order}
 use Rattle.iq_statements.specs.Named.{item_column, no_column, members_of, not_grouped, select_checks, is_aggregate}
-use Rattle.iq_statements.specs.Fits.{item_mismatch}
+use Rattle.iq_statements.specs.Fits.{item_mismatch, test_mismatch}
 use Rattle.iq_statements.specs.Answers.{answer_at, rows_at, projected, alone, group_order}
 use Rattle.iq_statements.specs.Tables.{Table, content}
 use Rattle.iq_database.proofs.Names.{same_name-refl}
-use Rattle.iq_query.specs.Simple.{IsColumnItem, IsSimple, IsSimpleList}
-use Rattle.iq_query.specs.Calls.{item_place, places_of, counts_rows, counted_rows}
+use Rattle.iq_query.specs.Simple.{IsColumnItem, IsSimple, IsSimpleList, IsSimpleCondition}
+use Rattle.iq_query.specs.Calls.{item_place, places_of, counts_rows, counted_rows, test_in, is_kept, chosen, test_refusal}
 
--- ALL ROWS, IN THEIR ORDER
+-- THE ROWS THAT ARE KEPT, IN THEIR ORDER
 
-kept_all : (columns : List Column) (rows : List (List Value)) → kept_rows columns None rows ≡ rows
-kept_all columns [] = refl
-kept_all columns (row ∷ rows) = ap (λ (rs : List (List Value)). row ∷ rs) (kept_all columns rows)
+on_true : (truth : Truth) → is_on sides.True truth ≡ is_true truth
+on_true truths.False = refl
+on_true truths.Unknown = refl
+on_true truths.True = refl
+
+kept_by : (columns : List Column) (test : Test) (rows : List (List Value)) → filter (is_kept columns (Some test)) rows ≡ kept_rows columns (Some (conds.Test test)) rows
+kept_by columns test [] = refl
+kept_by columns test (row ∷ rows) =
+    ap₂ (λ (b : Bool) (rs : List (List Value)). cond b (row ∷ rs) rs) (on_true (test_truth (value_named columns row) test)) (kept_by columns test rows)
+
+pub kept_is : (condition : Option Cond) (t : Table) → IsSimpleCondition condition → chosen (test_in condition) t ≡ kept_rows t.columns condition (content t)
+kept_is None t simple = refl
+kept_is (Some (conds.Test test)) t simple = kept_by t.columns test (content t)
+kept_is (Some (conds.Not' shape members)) t simple = absurd simple
+kept_is (Some (conds.And' shape members)) t simple = absurd simple
+kept_is (Some (conds.Or' shape members)) t simple = absurd simple
 
 order_none : (columns : List Column) (groups : List (List (List Value))) → in_order (group_order columns []) groups ≡ groups
 order_none columns [] = refl
@@ -138,10 +160,6 @@ all_have_places columns before (column ∷ rest) is = (
 
 -- WHAT THE TESTS FIND
 
-or_none : (o : Option Refusal) → option_or o None ≡ o
-or_none None = refl
-or_none (Some r) = refl
-
 fit_simple : (columns : List Column) (members : List Item) → IsSimpleList members → first_found (item_mismatch columns) members ≡ None
 fit_simple columns [] simple = refl
 fit_simple columns (items.Plain name ∷ members) simple = fit_plain columns members simple
@@ -160,12 +178,12 @@ fit_simple columns (items.Sum name ∷ members) simple = absurd simple
 fit_simple columns (items.Min name ∷ members) simple = absurd simple
 fit_simple columns (items.Max name ∷ members) simple = absurd simple
 
--- a simple query as it is: everything but its list and its table is as said
+-- a simple query as it is: everything but its list, its table and its condition is as said
 abbrev pub simple_of : Select → Select
-simple_of select = record select { explain = false; cond = None; group = []; order = [] }
+simple_of select = record select { explain = false; group = []; order = [] }
 
 pub is_simple : (select : Select) → IsSimple select → simple_of select ≡ select
-is_simple select s = rw (sym s.answered, sym s.all_rows, sym s.not_grouped, sym s.not_ordered) refl
+is_simple select s = rw (sym s.answered, sym s.not_grouped, sym s.not_ordered) refl
 
 grouped_none : (columns : List Column) (select : Select) → IsSimpleList select.items → not_grouped columns (simple_of select) ≡ None
 grouped_none columns select simple = by_list select.items simple
@@ -179,29 +197,76 @@ grouped_none columns select simple = by_list select.items simple
     by_list (items.Min name ∷ members) simple = absurd simple
     by_list (items.Max name ∷ members) simple = absurd simple
 
--- a simple query is refused for the first name that is no column
-pub checks_are : (select : Select) (t : Table) → IsSimple select → first_refusal (select_checks select t) ≡ first_found (no_column t.columns) (filter_map item_column select.items)
-checks_are select t s = subst (λ (q : Select). first_refusal (select_checks q t) ≡ first_found (no_column t.columns) (filter_map item_column q.items)) (is_simple select s) here
+-- the first of two lists
+found_append : {X : Type 0} (f : X → Option Refusal) (xs ys : List X) → first_found f (xs ++ ys) ≡ option_or (first_found f xs) (first_found f ys)
+found_append f [] ys = refl
+found_append f (x ∷ xs) ys = first (f x) (found_append f xs ys)
   where
-    here : first_refusal (select_checks (simple_of select) t) ≡ first_found (no_column t.columns) (filter_map item_column select.items)
-    here =
-        rw (append-nil (filter_map item_column select.items), append-nil (filter_map item_column select.items), append-nil (filter_map item_column select.items), fit_simple t.columns select.items s.list, grouped_none t.columns select s.list)
-        (or_none (first_found (no_column t.columns) (filter_map item_column select.items)))
+    first : (o : Option Refusal) → first_found f (xs ++ ys) ≡ option_or (first_found f xs) (first_found f ys) → option_or o (first_found f (xs ++ ys)) ≡ option_or (option_or o (first_found f xs)) (first_found f ys)
+    first None more = more
+    first (Some r) more = refl
+
+or_three : (a b d : Option Refusal) → option_or (option_or a b) (option_or (option_or d None) None) ≡ option_or a (option_or b d)
+or_three None None None = refl
+or_three None None (Some r) = refl
+or_three None (Some r) d = refl
+or_three (Some r) b d = refl
+
+-- a simple query is refused for the first name of its list that is no column, and then for its test
+pub checks_are : (select : Select) (t : Table) → IsSimple select
+    → first_refusal (select_checks select t) ≡ option_or (first_found (no_column t.columns) (filter_map item_column select.items)) (test_refusal t.columns (test_in select.cond))
+checks_are select t s =
+    subst (λ (q : Select). first_refusal (select_checks q t) ≡ option_or (first_found (no_column t.columns) (filter_map item_column q.items)) (test_refusal t.columns (test_in q.cond))) (is_simple select s)
+    (here select.cond s.condition)
+  where
+    named : List Name
+    named = filter_map item_column select.items
+
+    here : (condition : Option Cond) → IsSimpleCondition condition
+        → first_refusal (select_checks (record (simple_of select) { cond = condition }) t) ≡ option_or (first_found (no_column t.columns) named) (test_refusal t.columns (test_in condition))
+    here None simple =
+        rw (append-nil named, append-nil named, append-nil named, fit_simple t.columns select.items s.list, grouped_none t.columns (record select { cond = None }) s.list)
+        refl
+    here (Some (conds.Test test)) simple =
+        let names : ((named ++ (test_names test ++ [])) ++ []) ++ [] ≡ named ++ test_names test =
+        append-nil ((named ++ (test_names test ++ [])) ++ []) ∙ append-nil (named ++ (test_names test ++ [])) ∙ ap (λ (ns : List Name). named ++ ns) (append-nil (test_names test)) in
+        rw (names, found_append (no_column t.columns) named (test_names test), fit_simple t.columns select.items s.list, grouped_none t.columns (record select { cond = Some (conds.Test test) }) s.list)
+        (or_three (first_found (no_column t.columns) named) (first_found (no_column t.columns) (test_names test)) (test_mismatch t.columns test))
+    here (Some (conds.Not' shape members)) simple = absurd simple
+    here (Some (conds.And' shape members)) simple = absurd simple
+    here (Some (conds.Or' shape members)) simple = absurd simple
+
+-- what is found of its list, of its test, and of neither
+pub list_refused : (select : Select) (t : Table) (columns : List Column) (cause : Refusal) → IsSimple select → columns ≡ t.columns → first_found (no_column columns) (filter_map item_column select.items) ≡ Some cause
+    → first_refusal (select_checks select t) ≡ Some cause
+list_refused select t columns cause s are found =
+    checks_are select t s ∙ ap (λ (o : Option Refusal). option_or o (test_refusal t.columns (test_in select.cond))) (ap (λ (cs : List Column). first_found (no_column cs) (filter_map item_column select.items)) (sym are) ∙ found)
+
+pub test_refused : (select : Select) (t : Table) (columns : List Column) (found : Option Refusal) → IsSimple select → columns ≡ t.columns → first_found (no_column columns) (filter_map item_column select.items) ≡ None
+    → test_refusal columns (test_in select.cond) ≡ found → first_refusal (select_checks select t) ≡ found
+test_refused select t columns found s are granted refused =
+    checks_are select t s
+    ∙ ap (λ (o : Option Refusal). option_or o (test_refusal t.columns (test_in select.cond))) (ap (λ (cs : List Column). first_found (no_column cs) (filter_map item_column select.items)) (sym are) ∙ granted)
+    ∙ ap (λ (cs : List Column). test_refusal cs (test_in select.cond)) (sym are) ∙ refused
 
 -- WHAT IS ANSWERED
 
 pub listed_answer : (select : Select) (t : Table) → IsSimple select → counts_rows select.items ≡ false → first_found (no_column t.columns) (filter_map item_column select.items) ≡ None
-    → answers.Rows (map outs_of (map (values_at (places_of t.columns select.items)) (content t))) ≡ answer_at (Some t) select
-listed_answer select t s listed granted = subst (λ (q : Select). answers.Rows (map outs_of (map (values_at (places_of t.columns q.items)) (content t))) ≡ answer_at (Some t) q) (is_simple select s) (ap answers.Rows (by_list select.items s.list listed granted))
+    → answers.Rows (map outs_of (map (values_at (places_of t.columns select.items)) (kept_rows t.columns select.cond (content t)))) ≡ answer_at (Some t) select
+listed_answer select t s listed granted =
+    subst (λ (q : Select). answers.Rows (map outs_of (map (values_at (places_of t.columns q.items)) (kept_rows t.columns q.cond (content t)))) ≡ answer_at (Some t) q) (is_simple select s) (ap answers.Rows (by_list select.items s.list listed granted))
   where
+    rows : List (List Value)
+    rows = kept_rows t.columns select.cond (content t)
+
     by_list : (members : List Item) → IsSimpleList members → counts_rows members ≡ false → first_found (no_column t.columns) (filter_map item_column members) ≡ None
-        → map outs_of (map (values_at (places_of t.columns members)) (content t)) ≡ rows_at t (record (simple_of select) { items = members })
+        → map outs_of (map (values_at (places_of t.columns members)) rows) ≡ rows_at t (record (simple_of select) { items = members })
     by_list [] simple listed granted =
-        rw (kept_all t.columns (content t), order_none t.columns (map alone (content t)))
-        (all_rows t.columns (members_of t.columns []) (content t) (all_have_places t.columns [] t.columns refl))
+        rw (order_none t.columns (map alone rows))
+        (all_rows t.columns (members_of t.columns []) rows (all_have_places t.columns [] t.columns refl))
     by_list (items.Plain name ∷ members) simple listed granted =
-        rw (none_counts members simple, kept_all t.columns (content t), order_none t.columns (map alone (content t)))
-        (all_rows t.columns (items.Plain name ∷ members) (content t) (have_places t.columns (items.Plain name ∷ members) (tt, simple) granted))
+        rw (none_counts members simple, order_none t.columns (map alone rows))
+        (all_rows t.columns (items.Plain name ∷ members) rows (have_places t.columns (items.Plain name ∷ members) (tt, simple) granted))
     by_list (items.CountAll ∷ []) simple listed granted = cc
     by_list (items.CountAll ∷ (item ∷ members)) simple listed granted = cc
     by_list (items.Count name ∷ members) simple listed granted = absurd simple
@@ -209,13 +274,14 @@ listed_answer select t s listed granted = subst (λ (q : Select). answers.Rows (
     by_list (items.Min name ∷ members) simple listed granted = absurd simple
     by_list (items.Max name ∷ members) simple listed granted = absurd simple
 
-pub counted_answer : (select : Select) (t : Table) → IsSimple select → counts_rows select.items ≡ true → answers.Rows (counted_rows (content t)) ≡ answer_at (Some t) select
-counted_answer select t s counts = subst (λ (q : Select). answers.Rows (counted_rows (content t)) ≡ answer_at (Some t) q) (is_simple select s) (ap answers.Rows (by_list select.items s.list counts))
+pub counted_answer : (select : Select) (t : Table) → IsSimple select → counts_rows select.items ≡ true → answers.Rows (counted_rows (kept_rows t.columns select.cond (content t))) ≡ answer_at (Some t) select
+counted_answer select t s counts =
+    subst (λ (q : Select). answers.Rows (counted_rows (kept_rows t.columns q.cond (content t))) ≡ answer_at (Some t) q) (is_simple select s) (ap answers.Rows (by_list select.items s.list counts))
   where
-    by_list : (members : List Item) → IsSimpleList members → counts_rows members ≡ true → counted_rows (content t) ≡ rows_at t (record (simple_of select) { items = members })
+    by_list : (members : List Item) → IsSimpleList members → counts_rows members ≡ true → counted_rows (kept_rows t.columns select.cond (content t)) ≡ rows_at t (record (simple_of select) { items = members })
     by_list [] simple counts = cc
     by_list (items.Plain name ∷ members) simple counts = cc
-    by_list (items.CountAll ∷ []) simple counts = rw (kept_all t.columns (content t)) refl
+    by_list (items.CountAll ∷ []) simple counts = refl
     by_list (items.CountAll ∷ (item ∷ members)) simple counts = cc
     by_list (items.Count name ∷ members) simple counts = absurd simple
     by_list (items.Sum name ∷ members) simple counts = absurd simple
@@ -225,13 +291,18 @@ counted_answer select t s counts = subst (λ (q : Select). answers.Rows (counted
 -- what is answered, by whether the number of rows is asked for
 pub answered : (select : Select) (t : Table) (columns : List Column) (places : List ℕ) (rows : List (List Out)) → IsSimple select → columns ≡ t.columns → first_found (no_column columns) (filter_map item_column select.items) ≡ None
     → places ≡ places_of columns select.items
-    → (counts_rows select.items ≡ true → rows ≡ counted_rows (content t))
-    → (counts_rows select.items ≡ false → rows ≡ map outs_of (map (values_at places) (content t)))
+    → (counts_rows select.items ≡ true → rows ≡ counted_rows (chosen (test_in select.cond) t))
+    → (counts_rows select.items ≡ false → rows ≡ map outs_of (map (values_at places) (chosen (test_in select.cond) t)))
     → answers.Rows rows ≡ answer_at (Some t) select
 answered select t columns places rows s are granted at counted listed = by_test (counts_rows select.items) refl
   where
+    kept : chosen (test_in select.cond) t ≡ kept_rows t.columns select.cond (content t)
+    kept = kept_is select.cond t s.condition
+
     by_test : (b : Bool) → counts_rows select.items ≡ b → answers.Rows rows ≡ answer_at (Some t) select
-    by_test true is = ap answers.Rows (counted is) ∙ counted_answer select t s is
+    by_test true is = ap answers.Rows (counted is ∙ ap counted_rows kept) ∙ counted_answer select t s is
     by_test false is =
-        ap answers.Rows (listed is ∙ ap (λ (ps : List ℕ). map outs_of (map (values_at ps) (content t))) (at ∙ ap (λ (cs : List Column). places_of cs select.items) are))
+        ap answers.Rows
+        (listed is ∙ ap (λ (rs : List (List Value)). map outs_of (map (values_at places) rs)) kept
+        ∙ ap (λ (ps : List ℕ). map outs_of (map (values_at ps) (kept_rows t.columns select.cond (content t)))) (at ∙ ap (λ (cs : List Column). places_of cs select.items) are))
         ∙ listed_answer select t s is (subst (λ (cs : List Column). first_found (no_column cs) (filter_map item_column select.items) ≡ None) are granted)

@@ -1,29 +1,39 @@
 -- What a query reads, and why it isn't answered.
-use Rattle.std.specs.Prelude.{◌≡◌, ◌<◌, ◌⊎◌, ⊤, ℕ, ◌+◌, pos, Bool, true, false, List, [], ◌∷◌, Option, Some, None, length, slice_index}
+use Rattle.std.specs.Prelude.{◌≡◌, ◌<◌, ◌⊎◌, ⊤, ℕ, ◌+◌, pos, Bool, true, false, ◌&&◌, List, [], ◌∷◌, Option, Some, None, length, slice_index, filter}
 use Rattle.std.specs.List.{filter_map, slice_get}
-use Rattle.std.specs.Option.{option_and_then}
+use Rattle.std.specs.Option.{option_and_then, option_or}
 use Rattle.iq_base.specs.declared.refusals.Refusal.{Refusal}
 use Rattle.iq_base.specs.declared.refusals.Refusal.TheVariants as refusals
 use Rattle.iq_base.specs.declared.schemas.Column.{Column}
 use Rattle.iq_base.specs.declared.descriptors.Descriptor.{Descriptor}
+use Rattle.iq_ast.specs.declared.conditions.Test.{Test}
+use Rattle.iq_ast.specs.declared.conditions.Cond.{Cond}
+use Rattle.iq_ast.specs.declared.conditions.Cond as conds
 use Rattle.iq_ast.specs.declared.statements.Item.{Item}
 use Rattle.iq_ast.specs.declared.statements.Item.TheVariants as members
 use Rattle.iq_base.specs.declared.values.Value.{Value}
 use Rattle.iq_model.specs.declared.answers.Out.{Out}
 use Rattle.iq_model.specs.declared.answers.Out.TheVariants as outs
 use Rattle.iq_ast.specs.declared.statements.Select.{Select}
-use Rattle.iq_outside.specs.Faults.{RoseWithin}
 use Rattle.iq_pages.specs.declared.page_faults.PageFault.{PageFault}
 use Rattle.iq_pages.specs.declared.page_faults.PageFault.TheVariants as pages
 use Rattle.iq_pages.specs.Pages.{Seen}
-use Rattle.iq_chunks.specs.Chunks.{chunks_for, HasBitsCause}
-use Rattle.iq_fp.specs.Calls.{HasReadCause}
-use Rattle.iq_table.specs.Places.{existence_of, fp_at}
+use Rattle.iq_chunks.specs.Chunks.{chunks_for}
 use Rattle.iq_table.specs.Limits.{as_columns}
 use Rattle.iq_table.specs.Calls.{pages_of_columns}
+use Rattle.iq_conditions.specs.Conditions.{test_names}
 use Rattle.iq_conditions.specs.Servers.{column_place}
-use Rattle.iq_statements.specs.Checks.{first_refusal}
-use Rattle.iq_statements.specs.Named.{item_column, members_of, query_checks}
+use Rattle.iq_statements.specs.Checks.{first_refusal, first_found}
+use Rattle.iq_statements.specs.Fits.{test_mismatch}
+use Rattle.iq_statements.specs.Named.{item_column, members_of, no_column, query_checks}
+use Rattle.iq_statements.specs.Rows.{value_named}
+use Rattle.iq_statements.specs.Tables.{Slot, Table, content}
+use Rattle.iq_truth.specs.declared.truth.Side.TheVariants as sides
+use Rattle.iq_truth.specs.Sides.{is_on}
+use Rattle.iq_truth.specs.Tests.{test_truth}
+use Rattle.iq_predicate.specs.Found.{AreNamed}
+use Rattle.iq_predicate.specs.Calls.{pages_tested, HasTableCause}
+use Rattle.iq_table.specs.declared.table.Table.{Table as StoredTable}
 use Rattle.iq_database.specs.Standing.{OfDescribed}
 use Rattle.iq_database.specs.LookUps.{place_from}
 
@@ -43,6 +53,27 @@ counts_rows (item ∷ items) = counts_first item items
     counts_first (members.Min name) more = false
     counts_first (members.Max name) more = false
 
+-- the one test of a condition, if it is one
+abbrev pub test_in : Option Cond → Option Test
+test_in None = None
+test_in (Some (conds.Test test)) = Some test
+test_in (Some (conds.Not' shape members)) = None
+test_in (Some (conds.And' shape members)) = None
+test_in (Some (conds.Or' shape members)) = None
+
+-- whether a row is kept: where there is a test, that it is true of the row
+abbrev pub is_kept : List Column → Option Test → List Value → Bool
+is_kept columns None row = true
+is_kept columns (Some test) row = is_on sides.True (test_truth (value_named columns row) test)
+
+-- the rows of a table that are kept
+abbrev pub chosen : Option Test → Table → List (List Value)
+chosen test t = filter (is_kept t.columns test) (content t)
+
+-- whether the row of a slot is there and kept
+abbrev pub is_chosen : List Column → Option Test → Slot → Bool
+is_chosen columns test slot = is_kept columns test slot.row && slot.alive
+
 -- the one row that answers it
 abbrev pub counted_rows : List (List Value) → List (List Out)
 counted_rows rows = (outs.Int (pos (length rows)) ∷ []) ∷ []
@@ -61,11 +92,27 @@ places_of columns members = filter_map (item_place columns) (members_of columns 
 abbrev pub AreWithin : ℕ → List ℕ → Type 0
 AreWithin count places = (i : ℕ) → i < length places → slice_index places i < count
 
--- how many pages a query over the table at a place needs: those of existence, and of each column that it answers
+-- how many pages a test reads, if there is one
+abbrev pub pages_of_test : StoredTable → List Column → Option Test → ℕ
+pages_of_test table columns None = 0
+pages_of_test table columns (Some test) = pages_tested table columns test
+
+-- how many pages a query over the table at a place needs: those of existence, of each column that it tests and of each that it answers
 abbrev pub pages_at : Select → ℕ → Option Descriptor → ℕ
 pages_at select place None = 0
 pages_at select place (Some d) =
-    chunks_for d.slots + pages_of_columns (record { place = place; parts = d }) (places_of (as_columns d.columns) select.items)
+    chunks_for d.slots + pages_of_test (record { place = place; parts = d }) (as_columns d.columns) (test_in select.cond)
+    + pages_of_columns (record { place = place; parts = d }) (places_of (as_columns d.columns) select.items)
+
+-- what refuses a test of a table, if there is one: a name that is no column, or numbers beside texts
+abbrev pub test_refusal : List Column → Option Test → Option Refusal
+test_refusal columns None = None
+test_refusal columns (Some test) = option_or (first_found (no_column columns) (test_names test)) (test_mismatch columns test)
+
+-- each column that a test names is there
+abbrev pub AreTested : List Column → Option Test → Type 0
+AreTested columns None = ⊤
+AreTested columns (Some test) = AreNamed columns test
 
 abbrev pub pages_found : Select → List Descriptor → Option ℕ → ℕ
 pages_found select ds None = 0
@@ -82,17 +129,6 @@ abbrev pub page_refusal : PageFault → Refusal
 page_refusal (pages.Failed x y) = refusals.StoreFault x y
 page_refusal (pages.BadPage object page) = refusals.BadPage object page
 page_refusal pages.NoMemory = refusals.NoMemory
-
--- why a table isn't read: the store failed, or the page that the fault names isn't sound, of existence or of a column
-abbrev pub IsBadPageOf : ℕ → Descriptor → Seen → Seen → ℕ → ℕ → Type 0
-IsBadPageOf place d before after object page =
-    HasBitsCause (existence_of place) d.slots before after (pages.BadPage object page)
-    ⊎ ((c : ℕ) × (c < length d.columns) × HasReadCause (fp_at place d c) before after (pages.BadPage object page))
-
-abbrev pub HasTableCause : ℕ → Descriptor → Seen → Seen → PageFault → Type 0
-HasTableCause place d before after (pages.Failed x y) = RoseWithin before.faults x y after.faults
-HasTableCause place d before after (pages.BadPage object page) = IsBadPageOf place d before after object page
-HasTableCause place d before after pages.NoMemory = ⊤
 
 -- pages of a table aren't read
 pub record IsUnread (place : ℕ) (d : Descriptor) (before after : Seen) (cause : Refusal) : Type 0 where

@@ -1,6 +1,8 @@
 -- The queries that are answered.
-use Rattle.std.specs.Prelude.{◌≡◌, ⊤, false, List, [], ◌∷◌, None}
+use Rattle.std.specs.Prelude.{◌≡◌, ⊤, false, List, [], ◌∷◌, Option, Some, None}
 use Rattle.std.specs.List.{AllByRecursion}
+use Rattle.iq_ast.specs.declared.conditions.Cond.{Cond}
+use Rattle.iq_ast.specs.declared.conditions.Cond as conds
 use Rattle.iq_ast.specs.declared.statements.Item.{Item}
 use Rattle.iq_ast.specs.declared.statements.Item.TheVariants as items
 use Rattle.iq_ast.specs.declared.statements.Select.{Select}
@@ -28,10 +30,18 @@ abbrev pub IsSimpleList : List Item → Type 0
 IsSimpleList [] = ⊤
 IsSimpleList (item ∷ more) = AreSimpleMembers item more
 
--- all rows of a table, not grouped, not ordered, not explained
+-- no condition, or one test
+abbrev pub IsSimpleCondition : Option Cond → Type 0
+IsSimpleCondition None = ⊤
+IsSimpleCondition (Some (conds.Test test)) = ⊤
+IsSimpleCondition (Some (conds.Not' shape members)) = ⊥
+IsSimpleCondition (Some (conds.And' shape members)) = ⊥
+IsSimpleCondition (Some (conds.Or' shape members)) = ⊥
+
+-- all rows of a table or those of which one test is true, not grouped, not ordered, not explained
 pub record IsSimple (select : Select) : Type 0 where
   pub list : IsSimpleList select.items
   pub answered : select.explain ≡ false
-  pub all_rows : select.cond ≡ None
+  pub condition : IsSimpleCondition select.cond
   pub not_grouped : select.group ≡ []
   pub not_ordered : select.order ≡ []

@@ -1,15 +1,15 @@
 //! The columns that a query answers, by their places.
-ghost use Rattle.std.specs.Prelude.{◌≡◌, ◌≢◌, ◌<◌, ◌⊎◌, ℕ, length, slice_index, None, Some, [], ◌∷◌, IfOk, OnOk, IfErr, IfSome};
+ghost use Rattle.std.specs.Prelude.{◌≡◌, ◌≢◌, ◌<◌, ◌⊎◌, ℕ, length, slice_index, None, Some, [], ◌∷◌, IfOk, OnOk, IfErr};
 ghost use Rattle.std.specs.List.{AllByRecursion, filter_map};
 ghost use Rattle.iq_history.specs.Placed.{IsPlacedRefusal};
-ghost use Rattle.iq_conditions.specs.Servers.{column_place};
 ghost use Rattle.iq_statements.specs.Checks.{first_found};
 ghost use Rattle.iq_statements.specs.Named.{item_column, no_column};
 ghost use Rattle.iq_query.specs.Simple.{IsColumnItem, IsSimpleList};
 ghost use Rattle.iq_query.specs.Calls.{item_place, places_of, AreWithin};
 
 use iq_ast::Item;
-use iq_base::{Column, Name, NoMemory, Refusal};
+use iq_base::{Column, NoMemory, Refusal};
+use iq_database::column_place;
 use std::alloc::Global;
 
 /// The places of the columns that a query answers: all for `*`, none for the number of rows; or the first name that is no column.
@@ -81,12 +81,4 @@ fn place_in(columns: &[Column], item: &Item) -> Result<usize, Refusal>
             unreachable!()
         }
     }
-}
-
-/// The place of the column of a name.
-fn column_place(columns: &[Column], name: &Name) -> Option<usize>
-    ensures place { result ≡ column_place columns.now name.now }
-    ensures within { IfSome result (λ place. place < length columns.now) }
-{
-    columns.iter().position(|column| column.name == *name)
 }

@@ -1,7 +1,7 @@
 //! Runs compared with the plain program, which computes the definitions on lists; what it answers is printed here by hand.
 ghost use Rattle.std.specs.Prelude.{◌<◌, length};
 
-use iq_base::{FieldCause, Refusal};
+use iq_base::Refusal;
 use iq_history::Entry;
 use iq_model::{Answer, AnswerRows, Out, Reply, Said};
 use iq_outside::{SureDevice, SureSink};
@@ -20,17 +20,14 @@ fn push_refusal(text: &mut String, cause: &Refusal) -> Result<(), Fail> {
         Refusal::NoTable { name } => write!(text, "NoTable {name}")?,
         Refusal::TableExists { name } => write!(text, "TableExists {name}")?,
         Refusal::NoColumn { name } => write!(text, "NoColumn {name}")?,
-        Refusal::BadRow {
-            row,
-            field,
-            cause: FieldCause::Count,
-        } => write!(text, "BadRow {row} {field} Count")?,
+        Refusal::TypeMismatch { column } => write!(text, "TypeMismatch {column}")?,
+        Refusal::BadRow { row, field, cause } => write!(text, "BadRow {row} {field} {cause:?}")?,
         other => write!(text, "{other:?}")?,
     }
     Ok(())
 }
 
-/// Prints a row of an answer of whole numbers.
+/// Prints a row of an answer, whose texts have no quotes.
 fn push_row(text: &mut String, rows: &AnswerRows, r: usize) -> Result<(), Fail>
     requires { r < length rows.now }
 {
@@ -40,7 +37,10 @@ fn push_row(text: &mut String, rows: &AnswerRows, r: usize) -> Result<(), Fail>
         match rows.get(r, c) {
             Out::Null => text.push_str("NULL")?,
             Out::Int(number) => write!(text, "{number}")?,
-            Out::Text(other) => write!(text, "{other:?}")?,
+            Out::Text(value) => {
+                let value = value.as_str();
+                write!(text, "'{value}'")?
+            }
         }
         before = ",";
     }
@@ -55,6 +55,9 @@ fn push_reply(text: &mut String, reply: &Reply) -> Result<(), Fail> {
         Said::Created {
             commit: Some(commit),
         } => write!(text, "@{line} created commit {commit}\n")?,
+        Said::Dropped {
+            commit: Some(commit),
+        } => write!(text, "@{line} dropped commit {commit}\n")?,
         Said::Inserted {
             rows,
             commit: Some(commit),
@@ -168,6 +171,37 @@ SELECT y, z FROM t
 SELECT x, z FROM t
 INSERT INTO t VALUES (3)
 SELECT x FROM t
+",
+    )
+}
+
+#[test]
+fn types_and_tests_are_those_of_the_plain_program(rt: HostRuntime) -> Result<(), Fail> {
+    agrees(
+        &rt,
+        "CREATE TABLE t (a INT NOT NULL, b BIGINT, c VARCHAR(5))
+INSERT INTO t VALUES (1, 9223372036854775807, 'one'), (2, NULL, 'two'), (3, -9223372036854775808, NULL)
+INSERT INTO t VALUES (4, 4, ''), (NULL, 1, 'x')
+INSERT INTO t VALUES (4, 'x', 'x')
+INSERT INTO t VALUES (4, 1, 2)
+INSERT INTO t VALUES (2147483648, 1, 'x')
+INSERT INTO t VALUES (4, 1, 'sixsix')
+SELECT * FROM t
+SELECT c, a FROM t WHERE a >= 2
+SELECT a FROM t WHERE b <> -9223372036854775808
+SELECT COUNT(*) FROM t WHERE c IS NULL
+SELECT a FROM t WHERE c IN ('two', 'one', NULL)
+SELECT a FROM t WHERE a NOT BETWEEN 2 AND 2
+SELECT a FROM t WHERE a < b
+SELECT a FROM t WHERE c = 1
+SELECT a FROM t WHERE a = c
+SELECT a FROM t WHERE d = 1
+SELECT z FROM t WHERE d = 1
+DROP TABLE u
+DROP TABLE t
+SELECT * FROM t
+CREATE TABLE t (z INT)
+SELECT COUNT(*) FROM t WHERE z = NULL
 ",
     )
 }

@@ -211,14 +211,14 @@ fn a_script_is_read_up_to_16_mib(rt: HostRuntime) -> Result<(), Fail> {
 }
 
 #[test]
-fn the_first_line_outside_the_grammar_is_named(rt: HostRuntime) -> Result<(), Fail> {
+fn the_first_faulty_line_is_named(rt: HostRuntime) -> Result<(), Fail> {
     let script = b"\nSELECT x FROM t\n-- \nSELEC x FROM t\nSELEC";
-    prints(&rt, script, 3, "", "iqmux: line 4 Unbuilt\n")
+    prints(&rt, script, 3, "", "iqmux: line 4 Syntax 1\n")
 }
 
 #[test]
-fn a_run_of_the_grammars_size_prints_each_row(rt: HostRuntime) -> Result<(), Fail> {
-    // 62 lines of 4,096 bytes, each of 1,018 tuples, between a table's making and two queries of it.
+fn a_run_of_many_rows_prints_each_row(rt: HostRuntime) -> Result<(), Fail> {
+    // 61 lines of 1,018 tuples, between a table's making and two queries of it.
     let alloc = rt.alloc();
     let mut script = String::from_str(alloc, "CREATE TABLE t (x INT NULL)\n")?;
     for _ in 0..61 {

@@ -21,5 +21,5 @@ loop-row-preserved c =
       rows = bits_next (paired c.args.side c.args.op left.known.values left.codes.items right.known.values right.codes.items) c.loop-row.bits c.set.new.self row c.has.result c.set.ensures on (omega (arith, c.loop-row.invariant.long, c.loop-row-test.true)) c.loop-row.invariant.rows;
     }
 
-pub returns : goal.returns
-returns c = pairs_are c.args.side c.args.op _ _ _ _ c.args.count c.loop-row.bits c.requires.left_long c.requires.right_long c.loop-row.invariant.long (λ i h. c.loop-row.invariant.rows i (omega (arith, c.loop-row-test.false)))
+pub returns-clause-pairs : goal.returns-clause-pairs
+returns-clause-pairs c = pairs_are c.args.side c.args.op _ _ _ _ c.args.count c.loop-row.bits c.requires.left_long c.requires.right_long c.loop-row.invariant.long (λ i h. c.loop-row.invariant.rows i (omega (arith, c.loop-row-test.false)))

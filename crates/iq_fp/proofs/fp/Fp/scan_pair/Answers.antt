@@ -11,7 +11,7 @@ returns-clause-rows g c = λ vs ws left right.
     let fp = c.args.right.now in
     let kept = c.read_coded.ensures.reads.kept.told in
     let there = stands_there fp (g.S.PageSource.told c.args.source.now) (g.S.PageSource.told c.read_coded.new.source) ws (kept fp.codes) (kept fp.values) right in
-    c.in_ok-pairs.ensures ∙ ap₂ (zip2 (is_pair c.args.side c.args.op)) (c.in_ok-left.ensures.values vs left) (c.in_ok-right.ensures.values ws there)
+    c.in_ok-pairs.ensures.pairs ∙ ap₂ (zip2 (is_pair c.args.side c.args.op)) (c.in_ok-left.ensures.values vs left) (c.in_ok-right.ensures.values ws there)
 
 pub returns-clause-reads : goal.returns-clause-reads
 returns-clause-reads g c =
