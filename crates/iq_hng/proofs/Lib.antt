@@ -1,5 +1,5 @@
 pub mod Rows
-pub mod Bits
-pub mod Narrowing
 pub mod Orders
 pub mod Sums
+pub mod Ranges
+pub mod PlaneBits

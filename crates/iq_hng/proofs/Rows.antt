@@ -1,9 +1,8 @@
 -- Laws of rows and of planes.
-use Rattle.std.proofs.Common.{arith, ◌≡◌, ◌<◌, ◌≤◌, ℕ, suc, ◌+◌, ◌*◌, Bool, false, List, [], ◌∷◌, ◌++◌, ◌&&◌, ◌||◌, not, length, get_or, set, map, refl, ap, ap₂, sym, ◌∙◌, inl, inr}
+use Rattle.std.proofs.Common.{arith, ◌≡◌, ◌<◌, ◌≤◌, ℕ, suc, ◌+◌, ◌*◌, Bool, false, List, [], ◌∷◌, ◌++◌, ◌&&◌, ◌||◌, not, length, get_or, map, refl, ap, ap₂, sym, ◌∙◌}
 use Rattle.std.proofs.Math.Nat.{mul-le-mul_right, suc-mul}
-use Rattle.std.proofs.lemmas.Bool.{cases_lt}
 use Rattle.std.proofs.lemmas.Simd.{length-zip2}
-use Rattle.std.proofs.lemmas.List.{ext_get_or, get_or-set_same, get_or-set_other, get_or-map, length-map, map-append}
+use Rattle.std.proofs.lemmas.List.{ext_get_or, get_or-map, length-map, map-append}
 use Rattle.std.proofs.lemmas.List.FromFn.{length-map-range_with_len, get_or-map-range_with_len}
 use Rattle.std.specs.List.{All, range_with_len}
 use Rattle.std.proofs.lemmas.List.Elements.{All-get_or}
@@ -12,25 +11,18 @@ use Rattle.iq_base.specs.declared.values.Value.{Value}
 use Rattle.iq_base.specs.declared.values.Value.TheVariants as values
 use Rattle.iq_cells.specs.Packed.{value_at}
 use Rattle.iq_planes.specs.Planes.{plane_at, ArePlanes, grown}
+use Rattle.iq_hng.specs.Keys.{key_of, plane_bit, slice_bit}
 use Rattle.iq_hng.specs.Slices.{plane_of, planes_of}
 
 -- ROWS ONE AFTER THE OTHER
 
--- one row more
-pub bits_next : (f : ℕ → Bool) (bits : List Bool) (row : ℕ) (bit : Bool) → bit ≡ f row → row < length bits
-    → ((i : ℕ) → i < row → get_or bits i false ≡ f i) → (i : ℕ) → i < row + 1 → get_or (set bits row bit) i false ≡ f i
-bits_next f bits row bit is there before i less = elim (cases_lt i row) [
-  | inl earlier ↦ get_or-set_other bits row i bit false (λ e. absurd (omega arith)) ∙ before i earlier
-  | inr on ↦ (let same : i ≡ row = omega arith in rw same (get_or-set_same bits row bit false there ∙ is))
-]
-
 -- all rows
-pub rows_are : (f : Value → Bool) (vs : List Value) (bits : List Bool) → length bits ≡ length vs
-    → ((i : ℕ) → i < length vs → get_or bits i false ≡ f (value_at i vs)) → bits ≡ map f vs
-rows_are f vs bits long each =
-    ext_get_or false bits (map f vs) (long ∙ sym (length-map vs f))
-    (λ i less. let within : i < length vs = omega (arith, long, less) in
-    each i within ∙ sym (get_or-map f vs i values.Null false within))
+pub rows_are : {X : Type 0} (f : X → Bool) (xs : List X) (d : X) (bits : List Bool) → length bits ≡ length xs
+    → ((i : ℕ) → i < length xs → get_or bits i false ≡ f (get_or xs i d)) → bits ≡ map f xs
+rows_are f xs d bits long each =
+    ext_get_or false bits (map f xs) (long ∙ sym (length-map xs f))
+    (λ i less. let within : i < length xs = omega (arith, long, less) in
+    each i within ∙ sym (get_or-map f xs i d false within))
 
 -- PLANES
 
@@ -72,3 +64,8 @@ map_alike P f g e vs all = ext_get_or false (map f vs) (map g vs) (length-map vs
 -- one plane more
 pub rows_more : (d n k : ℕ) → d < n → d * k + k ≤ n * k
 rows_more d n k h = let up : suc d * k ≤ n * k = mul-le-mul_right k (omega (arith, h)) in omega (arith, suc-mul d k, up)
+
+-- the keys' plane is that of the values
+pub plane_by_keys : (bits j : ℕ) (vs : List Value) → map (plane_bit j) (map (key_of bits) vs) ≡ plane_of bits vs j
+plane_by_keys bits j [] = refl
+plane_by_keys bits j (v ∷ vs) = ap (λ (xs : List Bool). slice_bit bits j v ∷ xs) (plane_by_keys bits j vs)

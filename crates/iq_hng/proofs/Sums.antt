@@ -1,5 +1,5 @@
 -- A sum of numbers is made of the counts of rows in each plane.
-use Rattle.std.proofs.Common.{arith, rules, to_z, of_z, ◌≡◌, ◌≢◌, ◌<◌, ◌≤◌, ℕ, zero, suc, ◌+◌, ◌-◌, ◌*◌, ◌/◌, ◌%◌, ◌^◌, ◌&&◌, cond, pos, ℤ, Bool, true, false, nat_eq, List, [], ◌∷◌, length, Option, Some, None, refl, ap, sym, ◌∙◌}
+use Rattle.std.proofs.Common.{arith, rules, to_z, of_z, ◌≡◌, ◌<◌, ◌≤◌, ℕ, suc, ◌+◌, ◌*◌, ◌/◌, ◌%◌, ◌^◌, ◌&&◌, cond, pos, ℤ, Bool, true, false, nat_eq, List, [], ◌∷◌, Option, Some, None, refl, ap, sym, ◌∙◌}
 use Rattle.std.specs.Prelude.{◌+ℤ◌, ◌-ℤ◌}
 use Rattle.std.specs.Int.{w128}
 use Rattle.std.specs.List.{All, count_by}
@@ -13,7 +13,7 @@ use Rattle.std.proofs.lemmas.Grind.{common_steps}
 use Rattle.std.proofs.lemmas.Int.{ints}
 use Rattle.iq_base.specs.declared.values.Value.{Value}
 use Rattle.iq_base.specs.declared.values.Value.TheVariants.{Null, Int, Text}
-use Rattle.iq_hng.specs.Keys.{half, lifted, IsWithin, IsSlice, key_of, key_bit, bit_of, slice_bit}
+use Rattle.iq_hng.specs.Keys.{half, lifted, IsSlice, key_of, key_bit, bit_of, slice_bit}
 use Rattle.iq_hng.specs.Slices.{plane_of}
 use Rattle.iq_hng.specs.Sums.{number_of, sum_on, count_on, low_key, low_sum}
 use Rattle.iq_hng.proofs.Orders.{lifted_short}

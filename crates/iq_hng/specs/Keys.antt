@@ -1,5 +1,5 @@
 -- Numbers of so many bits, moved up by half so that none is negative, and their bits.
-use Rattle.std.specs.Prelude.{◌≤ℤ◌, ◌<ℤ◌, ℕ, zero, suc, ◌-◌, ◌/◌, ◌%◌, ◌^◌, ℤ, pos, ◌+ℤ◌, neg_ℤ, ⊤, Bool, false, nat_eq, nat_lt, unsigned_abs, Option, Some, None, is_some}
+use Rattle.std.specs.Prelude.{◌≤ℤ◌, ◌<ℤ◌, ℕ, zero, suc, ◌-◌, ◌/◌, ◌%◌, ◌^◌, ℤ, pos, ◌+ℤ◌, neg_ℤ, ⊤, Bool, false, nat_eq, unsigned_abs, Option, Some, None, is_some}
 use Rattle.iq_base.specs.declared.values.Kind.{Kind}
 use Rattle.iq_base.specs.declared.values.Kind.TheVariants as kinds
 use Rattle.iq_base.specs.declared.values.Value.{Value}
@@ -52,22 +52,11 @@ abbrev pub key_bit : ℕ → Option ℕ → Bool
 key_bit j None = false
 key_bit j (Some n) = bit_of j n
 
--- the bit of a value in a plane: whether there is a value, and then its bits, the least first
+-- the bit of a key in a plane: whether there is one, and then its bits, the least first
+abbrev pub plane_bit : ℕ → Option ℕ → Bool
+plane_bit zero key = is_some key
+plane_bit (suc j) key = key_bit j key
+
+-- the bit of a value in a plane
 abbrev pub slice_bit : ℕ → ℕ → Value → Bool
-slice_bit bits zero v = is_some (key_of bits v)
-slice_bit bits (suc j) v = key_bit j (key_of bits v)
-
--- COMPARED FROM A BIT ON
-
--- how a key stands to a number by their bits from j on
-abbrev pub is_same : ℕ → ℕ → Option ℕ → Bool
-is_same t j None = false
-is_same t j (Some n) = nat_eq (n / 2 ^ j) (t / 2 ^ j)
-
-abbrev pub is_below : ℕ → ℕ → Option ℕ → Bool
-is_below t j None = false
-is_below t j (Some n) = nat_lt (n / 2 ^ j) (t / 2 ^ j)
-
-abbrev pub is_above : ℕ → ℕ → Option ℕ → Bool
-is_above t j None = false
-is_above t j (Some n) = nat_lt (t / 2 ^ j) (n / 2 ^ j)
+slice_bit bits j v = plane_bit j (key_of bits v)

@@ -1,3 +1,4 @@
 pub mod Keys
 pub mod Slices
+pub mod Ranges
 pub mod Sums

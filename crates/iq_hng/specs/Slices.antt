@@ -1,5 +1,5 @@
 -- When an object stands for a column of numbers, plane by plane, and what its calls give.
-use Rattle.std.specs.Prelude.{◌≡◌, ◌≤◌, ◌<◌, ℕ, ◌+◌, ◌*◌, ◌^◌, ℤ, Bool, List, ◌++◌, Option, length, map, cond}
+use Rattle.std.specs.Prelude.{◌≡◌, ◌≤◌, ◌<◌, ℕ, ◌+◌, ◌*◌, ◌^◌, ℤ, Bool, List, ◌++◌, Option, length, map}
 use Rattle.std.specs.List.{All, range_with_len}
 use Rattle.iq_base.specs.declared.values.Value.{Value}
 use Rattle.iq_base.specs.declared.values.Value.TheVariants.{Int}
@@ -12,8 +12,7 @@ use Rattle.iq_truth.specs.Comparisons.{comparison}
 use Rattle.iq_pages.specs.Pages.{Pages}
 use Rattle.iq_chunks.specs.Chunks.{chunks_for}
 use Rattle.iq_planes.specs.Planes.{HoldsPlanes}
-use Rattle.iq_bitmap.specs.Bits.{both, either, difference}
-use Rattle.iq_hng.specs.Keys.{bits_of, IsSlice, key_of, slice_bit, is_below, is_same, is_above}
+use Rattle.iq_hng.specs.Keys.{bits_of, IsSlice, slice_bit}
 use Rattle.iq_hng.specs.declared.hng.Hng.{Hng}
 use Rattle.iq_hng.specs.declared.comparing.Compared.{Compared}
 
@@ -58,27 +57,8 @@ pub record HasRoom (hng : Hng) (more : ℕ) : Type 0 where
   pub rows : hng.slots + more < 2 ^ 32
   pub pages : planes_in hng * chunks_for (hng.slots + more) ≤ MOST_PAGES
 
--- COMPARED FROM A BIT ON
-
--- rows whose bits from one on tell how they stand to a number
-pub record FromBit (bits t j : ℕ) (values : List Value) (compared : Compared) : Type 0 where
-  pub less : compared.less ≡ map (λ v. is_below t j (key_of bits v)) values
-  pub equal : compared.equal ≡ map (λ v. is_same t j (key_of bits v)) values
-  pub greater : compared.greater ≡ map (λ v. is_above t j (key_of bits v)) values
-
 -- as many rows in each
 pub record AreLong (n : ℕ) (compared : Compared) : Type 0 where
   pub less : length compared.less ≡ n
   pub equal : length compared.equal ≡ n
   pub greater : length compared.greater ≡ n
-
--- the rows after one plane more, where the number's bit is set and where it isn't
-pub record IsNarrowed (bit : Bool) (plane : List Bool) (old new : Compared) : Type 0 where
-  pub less : new.less ≡ cond bit (either old.less (difference old.equal (both plane old.equal))) old.less
-  pub equal : new.equal ≡ cond bit (both plane old.equal) (difference old.equal (both plane old.equal))
-  pub greater : new.greater ≡ cond bit old.greater (either old.greater (both plane old.equal))
-
--- whatever numbers the index stands for: rows told apart down to a bit are told apart down to a lower one
-abbrev pub Narrows : Hng → (ℕ → Option Pages) → ℕ → ℕ → ℕ → Compared → Compared → Type 0
-Narrows hng told t from to before after =
-    (values : List Value) → Stands hng told values → FromBit (bits_of hng.width) t from values before → FromBit (bits_of hng.width) t to values after

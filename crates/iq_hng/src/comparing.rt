@@ -1,8 +1,16 @@
 //! Rows by how their numbers stand to one number.
-ghost use Rattle.std.specs.Prelude.{◌≡◌, length};
-ghost use Rattle.iq_hng.specs.Slices.{AreLong, IsNarrowed};
+ghost use Rattle.std.specs.Prelude.{◌≡◌, ◌≤◌, ◌*◌, IfOk, IfErr};
+ghost use Rattle.iq_base.specs.declared.sizes.TheConstants.{MOST_PAGES};
+ghost use Rattle.iq_pages.specs.PageCalls.{view};
+ghost use Rattle.iq_pieces.specs.Counts.{OnlyReads};
+ghost use Rattle.iq_chunks.specs.Chunks.{chunks_for};
+ghost use Rattle.iq_planes.specs.Planes.{HasPlanesCause};
+ghost use Rattle.iq_hng.specs.Slices.{planes_in, AreLong, GivesCompared};
 
+use crate::hng::Hng;
 use iq_bitmap::Bitmap;
+use iq_pages::{PageFault, PageSource};
+use std::alloc::Global;
 
 /// The rows with a lesser number, with the same, and with a greater one; a row with NULL is in none.
 #[derive(Debug, Drop)]
@@ -12,21 +20,25 @@ pub struct Compared {
     pub greater: Bitmap,
 }
 
-impl Compared {
-    /// Tells the rows that were equal so far apart by their next lower bit, given the number's own. The plane is used up.
-    pub(crate) fn narrow(&mut self, mut plane: Bitmap, bit: bool)
-        requires long { AreLong (length plane) self.old }
-        ensures long { AreLong (length plane) self.new }
-        ensures rows { IsNarrowed bit plane self.old self.new }
+impl Hng {
+    /// How all numbers stand to one: the range from it up to it. It reads each page at most once, and takes four bits a row.
+    pub fn compare<S: PageSource>(
+        &self,
+        alloc: Global,
+        source: &mut S,
+        number: i64,
+    ) -> Result<Compared, PageFault>
+        requires { planes_in self.now * chunks_for self.now.slots ≤ MOST_PAGES }
+        ensures long { IfOk result (AreLong self.now.slots) }
+        ensures rows { IfOk result (GivesCompared self.now (S.told source.old) number) }
+        ensures reads { OnlyReads (planes_in self.now * chunks_for self.now.slots) (view S.PageSource source.old) (view S.PageSource source.new) }
+        ensures cause { IfErr result (HasPlanesCause self.now.object (planes_in self.now) self.now.slots (view S.PageSource source.old) (view S.PageSource source.new)) }
     {
-        plane.and_with(&self.equal);
-        if bit {
-            self.equal.without(&plane);
-            self.less.or_with(&self.equal);
-            self.equal = plane;
-        } else {
-            self.equal.without(&plane);
-            self.greater.or_with(&plane);
-        }
+        let ranged = self.range(alloc, source, number, number)?;
+        Ok(Compared {
+            less: ranged.below,
+            equal: ranged.within,
+            greater: ranged.above,
+        })
     }
 }

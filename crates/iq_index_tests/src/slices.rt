@@ -3,9 +3,9 @@ use iq_ast::Op;
 use iq_base::{Kind, Value};
 use iq_bitmap::Bitmap;
 use iq_cells::Cells;
-use iq_hng::{Compared, Hng, Width};
+use iq_hng::{Compared, Hng, Ranged, Width};
 use iq_pages::{MemoryPages, PageFault, PageSource};
-use iq_truth::{Side, comparison};
+use iq_truth::{Side, between, comparison};
 use std::alloc::Global;
 use std::process::Abort;
 use std::test::Fail;
@@ -129,6 +129,110 @@ fn numbers_in_pieces_are_compared_as_plain_lists(rt: HostRuntime) -> Result<(), 
             assert_eq!(rt; (hng.slots, store.pages(OBJECT)), (end, planes * chunks));
             assert!(rt; agrees(&rt, alloc, &hng, &mut store)?);
         }
+    }
+    Ok(())
+}
+
+/// Ranges: over all numbers, of one number, between two, past either end of 32 bits, beyond all, and that end before they begin.
+const RANGES: [(i64, i64); 16] = [
+    (-2_147_483_648, 2_147_483_647),
+    (-1, -1),
+    (-5, 5),
+    (0, 2_147_483_647),
+    (-2_147_483_648, 0),
+    (-2_147_483_647, 2_147_483_646),
+    (6, 1_000),
+    (-2_147_483_649, -1),
+    (1, 2_147_483_648),
+    (i64::MIN, i64::MAX),
+    (2_147_483_648, i64::MAX),
+    (i64::MIN, -2_147_483_649),
+    (5, -5),
+    (1, 0),
+    (2_147_483_648, 0),
+    (0, -2_147_483_649),
+];
+
+fn ranged(
+    rt: &impl Abort,
+    alloc: Global,
+    hng: &Hng,
+    store: &mut MemoryPages,
+    low: i64,
+    high: i64,
+) -> Result<Ranged, PageFault> {
+    assert!(rt; hng.has_room(0));
+    hng.range(alloc, store, low, high)
+}
+
+/// Whether a set of rows is that of BETWEEN over the plain list.
+fn is_set_between(rows: &Bitmap, low: i64, high: i64) -> bool {
+    (0..rows.len()).all(|i| {
+        rows.get(i) == Side::True.has(between(&value(i), &Value::Int(low), &Value::Int(high)))
+    })
+}
+
+#[test]
+fn ranges_are_those_of_plain_lists(rt: HostRuntime) -> Result<(), Fail> {
+    let alloc = rt.alloc();
+    for (width, kind) in [(Width::Int, Kind::Int), (Width::Big, Kind::Big)] {
+        let mut store = MemoryPages::new(alloc, Vec::new(alloc));
+        let mut hng = Hng {
+            object: OBJECT,
+            slots: 0,
+            width,
+        };
+        let numbers = cells(alloc, kind, 0, 8070)?;
+        put(&rt, alloc, &mut hng, &mut store, &numbers)?;
+        for (low, high) in RANGES {
+            let rows = ranged(&rt, alloc, &hng, &mut store, low, high)?;
+            assert!(rt; rows.within.len() == hng.slots && is_set_between(&rows.within, low, high));
+            assert!(rt;
+                is_set_of(&rows.below, Op::Lt, low) && is_set_of(&rows.above, Op::Gt, high)
+            );
+        }
+    }
+    Ok(())
+}
+
+/// Ranges over the least number of 64 bits, 0, the greatest one and NULL, and how many rows are below, within and above.
+const WIDE: [(i64, i64, [u32; 3]); 7] = [
+    (i64::MIN, i64::MAX, [0, 3, 0]),
+    (
+        -9_223_372_036_854_775_807,
+        9_223_372_036_854_775_806,
+        [1, 1, 1],
+    ),
+    (i64::MAX, i64::MAX, [2, 1, 0]),
+    (i64::MIN, i64::MIN, [0, 1, 2]),
+    (1, i64::MAX, [2, 1, 0]),
+    (-1, 0, [1, 1, 1]),
+    (i64::MAX, i64::MIN, [2, 0, 2]),
+];
+
+#[test]
+fn the_ends_of_64_bits_are_in_ranges(rt: HostRuntime) -> Result<(), Fail> {
+    let alloc = rt.alloc();
+    let mut store = MemoryPages::new(alloc, Vec::new(alloc));
+    let mut hng = Hng {
+        object: OBJECT,
+        slots: 0,
+        width: Width::Big,
+    };
+    let mut numbers = Cells::new(alloc, Kind::Big);
+    numbers.push_null()?;
+    for number in [i64::MIN, 0, i64::MAX] {
+        numbers
+            .push_number(number)
+            .map_err(|_| "no number of the kind")?;
+    }
+    put(&rt, alloc, &mut hng, &mut store, &numbers)?;
+    for (low, high, counts) in WIDE {
+        let rows = ranged(&rt, alloc, &hng, &mut store, low, high)?;
+        assert_eq!(rt;
+            [rows.below.count(), rows.within.count(), rows.above.count()],
+            counts
+        );
     }
     Ok(())
 }

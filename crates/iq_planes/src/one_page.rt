@@ -7,8 +7,30 @@ use iq_base::{NoMemory, Page};
 use iq_bitmap::{Bitmap, CHUNK_ROWS};
 use std::alloc::Global;
 
-/// Puts bits of other rows, from one of these on, into the rows of a page from `from` up to `to`.
+/// Puts bits of other rows, from one of these on, into the rows of a page from `from` up to `to`. Where these are a whole chunk of both
+/// it costs a step for each 64 rows, and else one for each row.
 pub(crate) fn put_in_page(
+    alloc: Global,
+    page: &mut Page,
+    from: u32,
+    to: u32,
+    more: &Bitmap,
+    first: u32,
+) -> Result<(), NoMemory>
+    requires order { from ≤ to }
+    requires within { to ≤ CHUNK_ROWS }
+    requires there { first + (to - from) ≤ length more.now }
+    ensures { OnOk result (PutsRows from to first more.now (page_bits page.old) (page_bits page.new)) }
+{
+    if from == 0 && to == CHUNK_ROWS && first % CHUNK_ROWS == 0 {
+        more.store_page(first / CHUNK_ROWS, page);
+        return Ok(());
+    }
+    put_in_part(alloc, page, from, to, more, first)
+}
+
+/// Does that row by row.
+fn put_in_part(
     alloc: Global,
     page: &mut Page,
     from: u32,

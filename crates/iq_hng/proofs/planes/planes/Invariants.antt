@@ -6,5 +6,5 @@ use Rattle.iq_hng.proofs.planes.planes.Given as goal
 
 abbrev pub invariant-loop-j : goal.invariant-loop-j
 invariant-loop-j l = record {
-  planes : l.made.items ≡ map (plane_of (bits_of l.width) l.numbers.values) (range_with_len 0 l.j);
+  planes : l.made.items ≡ map (plane_of (bits_of l.fn.width) l.fn.numbers.values) (range_with_len 0 l.j);
 }

@@ -1,22 +1,12 @@
-use Rattle.std.proofs.Common.{◌≡◌, length, ap, ◌∙◌, arith}
+use Rattle.std.proofs.Common.{◌≡◌, ◌%◌, arith}
+use Rattle.iq_bitmap.specs.Bits.{page_bits}
 use Rattle.iq_bitmap.proofs.Chunks.{length-page_bits}
-use Rattle.iq_chunks.proofs.PageRows.{chunk_whole}
-use Rattle.iq_planes.specs.Planes.{PutsRows}
+use Rattle.iq_planes.proofs.PutRows.{puts_chunk}
 use Rattle.iq_planes.proofs.one_page.put_in_page.Goals as goal
 
-pub put_rows-requires-clause-within : goal.put_rows-requires-clause-within
-put_rows-requires-clause-within c =
-    let page : length c.in_ok-bits.bits ≡ 8064 = ap length c.in_ok-bits.ensures ∙ length-page_bits c.args.page.now in
-    omega (arith, page, c.requires.within)
-
-pub store_page-requires : goal.store_page-requires
-store_page-requires c =
-    let page : length c.in_ok-bits.bits ≡ 8064 = ap length c.in_ok-bits.ensures ∙ length-page_bits c.args.page.now in
-    omega (arith, page, c.put_rows.ensures.long)
-
-pub returns : goal.returns
-returns c =
-    let page : length c.in_ok-bits.bits ≡ 8064 = ap length c.in_ok-bits.ensures ∙ length-page_bits c.args.page.now in
-    let whole = chunk_whole c.put_rows.new.bits (c.put_rows.ensures.long ∙ page) in
-    let puts : PutsRows c.args.from c.args.to c.args.first c.args.more.now c.in_ok-bits.bits c.put_rows.new.bits = c.put_rows.ensures.rows in
-    rw (c.store_page.ensures, whole, ← c.in_ok-bits.ensures) puts
+pub returns-then-first-eq0 : goal.returns-then-first-eq0
+returns-then-first-eq0 c =
+    let from : c.args.from ≡ 0 = omega (arith, c.if-from-eq0.true) in
+    let to : c.args.to ≡ 8064 = omega (arith, c.if-to-eq-CHUNK_ROWS.true) in
+    let whole : c.args.first % 8064 ≡ 0 = omega (arith, c.if-first-eq0.true) in
+    rw (from, to) (puts_chunk c.args.first c.args.more.now (page_bits c.args.page.now) (page_bits c.store_page.new.into) whole (length-page_bits c.args.page.now) c.store_page.ensures)

@@ -1,10 +1,10 @@
-use Rattle.std.proofs.Common.{◌≡◌, ◌<◌, ◌+◌, ◌*◌, ℕ, suc, ap, sym, ◌∙◌, arith}
+use Rattle.std.proofs.Common.{◌≡◌, ◌+◌, ◌*◌, ℕ, suc, ap, sym, ◌∙◌, arith}
 use Rattle.iq_pages.specs.PageCalls.{view}
 use Rattle.iq_pieces.proofs.Counting.{reads_none, reads_on}
 use Rattle.iq_chunks.specs.Chunks.{chunks_for}
 use Rattle.iq_hng.specs.Keys.{bits_of}
 use Rattle.iq_hng.specs.Slices.{Stands}
-use Rattle.iq_hng.specs.Sums.{count_on, low_sum}
+use Rattle.iq_hng.specs.Sums.{count_on}
 use Rattle.iq_hng.proofs.Rows.{rows_more}
 use Rattle.iq_hng.proofs.Sums.{no_low, low_more, still_short}
 use Rattle.iq_hng.proofs.hng.Hng.lifted_sum.Goals as goal

@@ -1,5 +1,4 @@
-use Rattle.std.proofs.Common.{◌≡◌, ◌*◌, ◌^◌, ◌-◌, ℕ, pos, ◌∙◌, sym, ap, arith, to_z, of_z}
-use Rattle.std.proofs.lemmas.Int.{ints}
+use Rattle.std.proofs.Common.{◌≡◌, ◌*◌}
 use Rattle.iq_hng.specs.Keys.{bits_of, half}
 use Rattle.iq_hng.specs.Slices.{Stands}
 use Rattle.iq_hng.specs.Sums.{count_on}
