@@ -1,0 +1,12 @@
+pub mod EntryLaws
+pub mod BitmapLaws
+pub mod RowLaws
+pub mod GatherLaws
+pub mod Readings
+pub mod TableLaws
+pub mod EntriesRead
+pub mod MergeLaws
+pub mod NumberLaws
+pub mod FindLaws
+pub mod GrowLaws
+pub mod WriteLaws
