@@ -1,0 +1,9 @@
+pub mod PlaceBytes
+pub mod PageLaws
+pub mod MarkLaws
+pub mod WantedLaws
+pub mod AllMarked
+pub mod WalkLaws
+pub mod SearchLaws
+pub mod StartLaws
+pub mod EqualLaws

@@ -1,0 +1,10 @@
+pub mod SortedLaws
+pub mod LeafLaws
+pub mod MergeLaws
+pub mod CutLaws
+pub mod SortLaws
+pub mod PageBytes
+pub mod OnlyLeaf
+pub mod Joined
+pub mod MergeSteps
+pub mod SpotLaws
