@@ -22,8 +22,11 @@ pub use laws::{
     pages_change_with_their_blocks, pages_stand_on_their_blocks,
     what_is_fresh_replaces_what_is_lost, what_is_not_reached_is_apart,
 };
-pub use map_bytes::RawMap;
+pub use map_bytes::{Places, ROOM, RawMap, payload_of};
 pub use pages::{push, with_page};
-pub use reading::{addresses, blocks, maps, most_maps, page, read_page, read_raw_map};
+pub use reading::{
+    addresses, blocks, leaf_count, leaves_of, maps, most_maps, page, read_map, read_page,
+    read_raw_map, used_in,
+};
 pub use taker::Taker;
-pub use writing::put_page;
+pub use writing::{put, put_page};

@@ -30,7 +30,8 @@ pub fn put_page<D: Device, T: Taker>(
     put(disk, space, PAGE, 0, page)
 }
 
-/// Takes a block and writes it. The level is that of a map, else 0.
+/// Takes a block and writes it, of any kind. The level is that of a map, else 0. One block is taken and written, also where that
+/// fails; no memory is taken. `NoSpace` comes where no block is left.
 pub fn put<D: Device, T: Taker>(
     disk: &mut D,
     space: &mut T,

@@ -8,3 +8,4 @@ pub mod Passed
 pub mod Same
 pub mod Stands
 pub mod Unset
+pub mod Described

@@ -14,7 +14,7 @@ use Rattle.iq_base.specs.declared.descriptors.ColumnPart.{ColumnPart}
 use Rattle.iq_base.specs.declared.descriptors.IndexPart.{IndexPart}
 use Rattle.iq_base.specs.declared.descriptors.Descriptor.{Descriptor}
 use Rattle.iq_opening.specs.Steps.{visit, visit_map, named, page_steps, leaf_steps, leaves_steps, high_steps, object_steps, object_from, column_steps, columns_steps, index_steps, indexes_steps, objects_steps, other_steps, block_steps}
-use Rattle.iq_opening.specs.Tables.{more_of, blocks_at, head_page, other_page, pages_at}
+use Rattle.iq_descriptors.specs.Parts.{more_of, blocks_at, head_page, other_page, pages_at}
 
 pub leaf_begins : (all : List (List ℕ)) (holder at used : ℕ) (ps named : List ℕ) → ps ≡ places (block_of all at) → named ≡ take used ps
     → leaf_steps all holder at used ≡ (visit_map holder at 1 used ∷ []) ++ page_steps at (drop 0 named)

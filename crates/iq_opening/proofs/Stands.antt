@@ -11,14 +11,15 @@ use Rattle.iq_base.specs.declared.descriptors.Descriptor.{Descriptor}
 use Rattle.iq_catalog.specs.Storable.{are_columns, are_indexes, IsStorable}
 use Rattle.iq_block_map.specs.Laws.{SameObject}
 use Rattle.iq_opening.specs.declared.faults.StoreCause.TheVariants.{BadCatalog}
-use Rattle.iq_opening.specs.Tables.{Format, more_of, blocks_at, head_page, other_page, pages_at, said_by, table_at, is_descriptor, may_stand, is_table}
+use Rattle.iq_descriptors.specs.Parts.{more_of, blocks_at, head_page, other_page, pages_at, said_by, table_at, is_descriptor}
+use Rattle.iq_opening.specs.Tables.{Format, may_stand, is_table}
 use Rattle.iq_opening.specs.Steps.{Step, visit, table, object_from, column_steps, columns_steps, index_steps, indexes_steps, objects_steps, other_steps, block_steps, table_steps, tables_steps}
 use Rattle.iq_opening.specs.Walk.{unless, fault_at, walked}
 use Rattle.iq_opening.specs.Laws.{SameWhere, OfColumn, OfColumns, OfIndex, OfIndexes, OfObjects, SameReach}
 use Rattle.iq_opening.proofs.Ways.{walked_on}
 use Rattle.iq_opening.proofs.Parts.{some_other, no_other_page, some_other_page}
 use Rattle.iq_opening.proofs.Refs.{few_pages, ColumnRefs, column_refs, IndexRefs, index_refs}
-use Rattle.iq_opening.proofs.Stored.{storable_of}
+use Rattle.iq_descriptors.proofs.SaidLemmas.{storable_of}
 use Rattle.iq_opening.proofs.Passed.{Split, split, step_passed, step_passes, unless_none, size_walked, VisitPassed, visit_passed}
 use Rattle.iq_opening.proofs.Same.{OnlyVisits, visits_both, object_visits, visits_same, earlier, object_same, object_stands}
 

@@ -14,7 +14,8 @@ use Rattle.iq_root.specs.declared.root.Root.{Root}
 use Rattle.iq_opening.specs.declared.faults.OpenFault.TheVariants.{NotAStore}
 use Rattle.iq_opening.specs.declared.faults.StoreCause.TheVariants.{OldFormat, Size, BadCatalog}
 use Rattle.iq_opening.specs.declared.opening.StoredTable.{StoredTable}
-use Rattle.iq_opening.specs.Tables.{coded, more_of, blocks_at, pages_at, said_by, table_at, is_table}
+use Rattle.iq_descriptors.specs.Parts.{more_of, blocks_at, pages_at, said_by, table_at}
+use Rattle.iq_opening.specs.Tables.{coded, is_table}
 use Rattle.iq_opening.specs.Steps.{table, block_steps, objects_steps, table_steps, tables_steps}
 use Rattle.iq_opening.specs.Walk.{Fault, fault, fault_at, walked}
 use Rattle.iq_opening.specs.Opening.{body_of, none_reached, root_opened, stored_at, tables_at}

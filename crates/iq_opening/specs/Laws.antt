@@ -6,7 +6,8 @@ use Rattle.iq_base.specs.declared.descriptors.ColumnPart.{ColumnPart}
 use Rattle.iq_base.specs.declared.descriptors.IndexPart.{IndexPart}
 use Rattle.iq_base.specs.declared.descriptors.Descriptor.{Descriptor}
 use Rattle.iq_block_map.specs.Laws.{SameObject}
-use Rattle.iq_opening.specs.Tables.{Format, table_at}
+use Rattle.iq_descriptors.specs.Parts.{table_at}
+use Rattle.iq_opening.specs.Tables.{Format}
 use Rattle.iq_opening.specs.Steps.{tables_steps}
 use Rattle.iq_opening.specs.Walk.{is_reached, walked}
 

@@ -5,7 +5,8 @@ use Rattle.iq_root.specs.declared.root.Root.{Root}
 use Rattle.iq_opening.specs.declared.faults.StoreCause.TheVariants.{NoRoot, OldFormat, Size}
 use Rattle.iq_opening.specs.declared.opening.StoredTable.{StoredTable}
 use Rattle.iq_opening.specs.declared.opening.Opening.{Opening}
-use Rattle.iq_opening.specs.Tables.{Format, coded, table_at}
+use Rattle.iq_descriptors.specs.Parts.{table_at}
+use Rattle.iq_opening.specs.Tables.{Format, coded}
 use Rattle.iq_opening.specs.Steps.{Step, tables_steps}
 use Rattle.iq_opening.specs.Walk.{Fault, fault, walked}
 

@@ -9,7 +9,8 @@ use Rattle.iq_base.specs.declared.descriptors.IndexPart.{IndexPart}
 use Rattle.iq_base.specs.declared.descriptors.Descriptor.{Descriptor}
 use Rattle.iq_block_map.specs.Maps.{places}
 use Rattle.iq_block_map.specs.Objects.{leaf_count}
-use Rattle.iq_opening.specs.Tables.{Format, more_of, blocks_at, table_at}
+use Rattle.iq_descriptors.specs.Parts.{more_of, blocks_at, table_at}
+use Rattle.iq_opening.specs.Tables.{Format}
 
 -- One step. An address that stands in a block, its holder, is to lead to a block of a kind; or to a map of a level, of which so many
 -- places are in use. Or the descriptor with this head is to be that of a table whose name comes behind another.

@@ -7,7 +7,8 @@ use Rattle.iq_block_store.specs.Frames.{number_at, map_kind, has_header}
 use Rattle.iq_block_map.specs.Maps.{is_address, places}
 use Rattle.iq_opening.specs.declared.faults.StoreCause.{StoreCause}
 use Rattle.iq_opening.specs.declared.faults.StoreCause.TheVariants.{OutOfRange, Shared, BadHeader, BadMap, BadCatalog}
-use Rattle.iq_opening.specs.Tables.{more_of, pages_at, is_table}
+use Rattle.iq_descriptors.specs.Parts.{more_of, pages_at}
+use Rattle.iq_opening.specs.Tables.{is_table}
 use Rattle.iq_opening.specs.Steps.{Step}
 
 -- what is wrong, and the block that shows it

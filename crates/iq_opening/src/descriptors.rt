@@ -1,8 +1,7 @@
 //! The blocks of a descriptor.
 ghost use Rattle.std.specs.Prelude.{◌≡◌, ◌++◌, IfOk, IfErr, OnOk};
-ghost use Rattle.iq_block_store.specs.Frames.{payload_of};
 ghost use Rattle.iq_block_map.specs.Refs.{WhereTold};
-ghost use Rattle.iq_opening.specs.Tables.{head_page, other_page, blocks_at, pages_at};
+ghost use Rattle.iq_descriptors.specs.Parts.{other_page, blocks_at, pages_at};
 ghost use Rattle.iq_opening.specs.Steps.{block_steps, other_steps};
 ghost use Rattle.iq_opening.specs.Calls.{Goes, Stops, HasBits};
 
@@ -11,7 +10,8 @@ use crate::reaching::reach;
 use iq_base::Page;
 use iq_bitmap::Bitmap;
 use iq_block_store::{DESCRIPTOR, number_at};
-use iq_outside::{Block, Device};
+use iq_descriptors::{head_page, payload_of};
+use iq_outside::Device;
 use std::alloc::Global;
 
 /// A descriptor as it stands in a store: its blocks, 0 where there is none, and their pages, with 0 for the addresses of the others.
@@ -19,25 +19,6 @@ use std::alloc::Global;
 pub struct Found {
     pub block_numbers: [u32; 4],
     pub pages: Vec<Page>,
-}
-
-/// What a block holds behind its header.
-#[tactic(auto, unfolding(iq_block_store::specs::Frames::payload_of))]
-fn payload_of(block: &Block) -> Page
-    ensures { result ≡ payload_of block.now }
-{
-    let mut page = [0; 1008];
-    page.copy_from_slice(block.split_at(16).1);
-    page
-}
-
-/// The page of a head, with 0 for the three addresses.
-fn head_page(block: &Block) -> Page
-    ensures { result ≡ head_page block.now }
-{
-    let mut page = [0; 1008];
-    page[12..].copy_from_slice(block.split_at(28).1);
-    page
 }
 
 /// Reaches another block of a descriptor, if there is one, and puts its page at the end.

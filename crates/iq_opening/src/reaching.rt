@@ -100,7 +100,7 @@ pub fn reach_map<D: Device>(
 }
 
 /// Whether all numbers are zero.
-pub fn is_zero(numbers: &[u32]) -> bool
+fn is_zero(numbers: &[u32]) -> bool
     ensures { result ≡ list_all (nat_eq 0) numbers.now }
 {
     numbers.iter().all(|n| 0 == *n)

@@ -3,7 +3,9 @@ ghost use Rattle.std.specs.Prelude.{◌≡◌, [], Some, None, true, false, IfOk
 ghost use Rattle.iq_block_map.specs.Refs.{WhereTold};
 ghost use Rattle.iq_base.specs.declared.descriptors.Descriptor.{Descriptor};
 ghost use Rattle.iq_catalog.specs.Storable.{IsStorable};
-ghost use Rattle.iq_opening.specs.Tables.{coded, may_stand, is_table, said_by, comes_behind, are_packed, table_at};
+ghost use Rattle.iq_descriptors.specs.Parts.{said_by, are_packed, table_at};
+ghost use Rattle.iq_descriptors.specs.Stored.{comes_behind};
+ghost use Rattle.iq_opening.specs.Tables.{coded, may_stand, is_table};
 ghost use Rattle.iq_opening.specs.Steps.{table_steps, tables_steps};
 ghost use Rattle.iq_opening.specs.Opening.{tables_at};
 ghost use Rattle.iq_opening.specs.Calls.{Goes, Stops, HasBits};
@@ -11,36 +13,13 @@ ghost use Rattle.iq_opening.specs.Calls.{Goes, Stops, HasBits};
 use crate::descriptors::{Found, reach_descriptor};
 use crate::faults::bad;
 use crate::objects::reach_objects;
-use crate::reaching::is_zero;
 use crate::{OpenFault, StoreCause, StoredTable};
 use iq_base::{Descriptor, Listed, Name, NoMemory, Page};
 use iq_bitmap::Bitmap;
 use iq_catalog::{CatalogFault, fits_slots, get};
+use iq_descriptors::{are_packed, comes_behind};
 use iq_outside::Device;
 use std::alloc::Global;
-use std::cmp::Ordering;
-
-/// Whether no address stands behind one that is 0.
-fn are_packed(more: &[u32]) -> bool
-    ensures { result ≡ are_packed more.now }
-{
-    for (k, at) in more.iter().enumerate() {
-        if *at == 0 {
-            return is_zero(more.split_at(k + 1).1);
-        }
-    }
-    true
-}
-
-/// Whether a name comes behind another, in order of bytes.
-fn comes_behind(before: &Name, name: &Name) -> bool
-    ensures { result ≡ comes_behind before.now name.now }
-{
-    match before.cmp(name) {
-        Ordering::Less => true,
-        Ordering::Equal | Ordering::Greater => false,
-    }
-}
 
 /// Whether a table may stand here: no address is missing in the middle, its name comes behind another, and its objects have their
 /// sizes.

@@ -11,8 +11,9 @@ use Rattle.iq_base.specs.declared.descriptors.Descriptor.{Descriptor}
 use Rattle.iq_block_map.specs.Maps.{places}
 use Rattle.iq_catalog.specs.Pages.{joined}
 use Rattle.iq_catalog.specs.Storable.{IsStorable}
-use Rattle.iq_opening.proofs.Stored.{test_of, storable_of}
-use Rattle.iq_opening.specs.Tables.{coded, more_of, other_page, head_page, pages_at, table_at, may_be_stored}
+use Rattle.iq_descriptors.proofs.SaidLemmas.{test_of, storable_of}
+use Rattle.iq_descriptors.specs.Parts.{more_of, other_page, head_page, pages_at, table_at, may_be_stored}
+use Rattle.iq_opening.specs.Tables.{coded}
 use Rattle.iq_opening.specs.Steps.{Step, visit, leaf_steps, leaves_steps, column_steps, columns_steps, index_steps, indexes_steps, other_steps, block_steps, table_steps, tables_steps}
 use Rattle.iq_opening.proofs.Parts.{leaves_go_on, leaves_end, columns_go_on, columns_end, indexes_go_on, indexes_end}
 use Rattle.iq_opening.proofs.Wholes.{tables_next, tables_end}

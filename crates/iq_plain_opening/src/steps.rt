@@ -1,7 +1,8 @@
 //! The steps of the way through a store, all of them as a list.
 ghost use Rattle.std.specs.Prelude.{◌≡◌, ◌≤◌, ◌+◌, ◌*◌, ◌++◌, [], slice_index, length, IfOk, OnOk};
 ghost use Rattle.iq_block_map.specs.Objects.{leaf_count};
-ghost use Rattle.iq_opening.specs.Tables.{coded, more_of, blocks_at, table_at};
+ghost use Rattle.iq_descriptors.specs.Parts.{more_of, blocks_at, table_at};
+ghost use Rattle.iq_opening.specs.Tables.{coded};
 ghost use Rattle.iq_opening.specs.Steps.{visit, visit_map, table, named, page_steps, leaf_steps, leaves_steps, high_steps, object_steps, object_from, column_steps, columns_steps, index_steps, indexes_steps, objects_steps, other_steps, block_steps, table_steps, tables_steps};
 ghost use Rattle.iq_plain_opening.specs.Asked.{step_of};
 

@@ -2,7 +2,9 @@
 ghost use Rattle.std.specs.Prelude.{◌≡◌, ◌≤◌, ◌++◌, length, nat_eq, IfOk, OnOk};
 ghost use Rattle.std.specs.List.{list_all};
 ghost use Rattle.iq_catalog.specs.Pages.{joined};
-ghost use Rattle.iq_opening.specs.Tables.{coded, other_page, pages_at, table_at, more_of, are_packed, may_be_stored, is_descriptor, comes_behind, may_stand, is_table};
+ghost use Rattle.iq_descriptors.specs.Parts.{other_page, pages_at, table_at, more_of, are_packed, may_be_stored, is_descriptor};
+ghost use Rattle.iq_descriptors.specs.Stored.{comes_behind};
+ghost use Rattle.iq_opening.specs.Tables.{coded, may_stand, is_table};
 ghost use Rattle.iq_outside.specs.Devices.{block_of};
 
 use crate::bytes::{behind, block_of, number_at, numbers_at};
@@ -40,7 +42,7 @@ fn pages_at(alloc: Global, blocks: &[Block], head: u32) -> Result<Vec<u8>, NoMem
 }
 
 /// The table whose descriptor has its head in this block.
-#[tactic(auto, unfolding(iq_opening::specs::Tables::table_at, iq_opening::specs::Tables::said_by))]
+#[tactic(auto, unfolding(iq_descriptors::specs::Parts::table_at, iq_descriptors::specs::Parts::said_by))]
 pub fn table_at(alloc: Global, blocks: &[Block], head: u32) -> Result<Descriptor, NoMemory>
     ensures ok { IfOk result (λ table. table ≡ table_at blocks.now head) }
     ensures columns { IfOk result (λ table. length table.columns ≤ 255) }
@@ -68,7 +70,7 @@ fn may_be_stored(table: &Descriptor) -> bool
 }
 
 /// Whether the pages of a head are those of a descriptor that may be stored.
-#[tactic(auto, unfolding(iq_opening::specs::Tables::table_at))]
+#[tactic(auto, unfolding(iq_descriptors::specs::Parts::table_at))]
 fn is_descriptor(alloc: Global, blocks: &[Block], head: u32) -> Result<bool, NoMemory>
     ensures { IfOk result (λ right. right ≡ is_descriptor (pages_at blocks.now head)) }
 {
@@ -110,7 +112,7 @@ fn comes_behind(before: &Name, name: &Name) -> bool
 }
 
 /// Whether the descriptor with this head is that of a table whose name comes behind another.
-#[tactic(auto, unfolding(iq_opening::specs::Tables::table_at))]
+#[tactic(auto, unfolding(iq_descriptors::specs::Parts::table_at))]
 pub fn is_table(alloc: Global, blocks: &[Block], head: u32, before: &Name) -> Result<bool, NoMemory>
     ensures { IfOk result (λ right. right ≡ is_table coded before.now
         (more_of (block_of blocks.now head)) (pages_at blocks.now head)) }

@@ -1,7 +1,7 @@
 use Rattle.std.proofs.Common.{refl, ◌++◌, [], ◌∷◌, append-nil, flat_map}
 use Rattle.iq_outside.specs.Devices.{block_of}
 use Rattle.iq_block_store.specs.Frames.{descriptor_kind}
-use Rattle.iq_opening.specs.Tables.{more_of}
+use Rattle.iq_descriptors.specs.Parts.{more_of}
 use Rattle.iq_opening.specs.Steps.{visit, other_steps, block_steps}
 use Rattle.iq_opening.proofs.Ways.{err_exit, lead_start, lead_on, lead_last, lead_stop}
 use Rattle.iq_opening.proofs.Parts.{blocks_begin, more_are}

@@ -1,5 +1,6 @@
 use Rattle.std.proofs.Common.{refl, sym, ◌∙◌, ◌++◌, [], ◌∷◌, true, false, append-nil}
-use Rattle.iq_opening.specs.Tables.{coded, blocks_at, table_at}
+use Rattle.iq_descriptors.specs.Parts.{blocks_at, table_at}
+use Rattle.iq_opening.specs.Tables.{coded}
 use Rattle.iq_opening.specs.Steps.{table, block_steps, objects_steps, table_steps}
 use Rattle.iq_opening.proofs.Ways.{err_exit, lead_start, lead_on, lead_last, lead_stop}
 use Rattle.iq_opening.proofs.Wholes.{table_begins, test_told, table_goes, table_stops, table_there, objects_told}

@@ -1,5 +1,6 @@
 use Rattle.std.proofs.Common.{◌∙◌, ◌+◌, [], drop, slice_index}
-use Rattle.iq_opening.specs.Tables.{coded, table_at}
+use Rattle.iq_descriptors.specs.Parts.{table_at}
+use Rattle.iq_opening.specs.Tables.{coded}
 use Rattle.iq_opening.specs.Steps.{table_steps, tables_steps}
 use Rattle.iq_opening.proofs.Ways.{err_exit, lead_on, lead_end, lead_stop}
 use Rattle.iq_opening.proofs.Wholes.{tables_end, tables_go_on, tables_next, tables_more, tables_all}

@@ -1,6 +1,7 @@
 use Rattle.std.proofs.Common.{sym, ◌∙◌}
 use Rattle.iq_opening.specs.Tables.{coded}
-use Rattle.iq_opening.proofs.Stored.{said_back, table_pages, no_table_pages}
+use Rattle.iq_descriptors.proofs.SaidLemmas.{said_back}
+use Rattle.iq_opening.proofs.Stored.{table_pages, no_table_pages}
 use Rattle.iq_opening.proofs.tables.table_of.Goals as goal
 
 pub returns-in-Err-BadCatalog-clause-none : goal.returns-in-Err-BadCatalog-clause-none

@@ -1,5 +1,5 @@
 use Rattle.std.proofs.Common.{◌≡◌, drop}
-use Rattle.iq_opening.specs.Tables.{are_packed}
+use Rattle.iq_descriptors.specs.Parts.{are_packed}
 use Rattle.iq_plain_opening.proofs.tables.are_packed.Given as goal
 
 abbrev pub invariant-loop-k : goal.invariant-loop-k

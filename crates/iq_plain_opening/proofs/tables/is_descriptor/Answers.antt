@@ -1,5 +1,5 @@
 use Rattle.std.proofs.Common.{sym, ◌∙◌}
-use Rattle.iq_opening.proofs.Stored.{storable_of}
+use Rattle.iq_descriptors.proofs.SaidLemmas.{storable_of}
 use Rattle.iq_plain_opening.proofs.tables.is_descriptor.Goals as goal
 
 pub put-requires : goal.put-requires

@@ -1,6 +1,6 @@
 use Rattle.std.proofs.Common.{◌≡◌, drop}
-use Rattle.iq_opening.specs.Tables.{are_packed}
-use Rattle.iq_opening.proofs.tables.are_packed.Given as goal
+use Rattle.iq_descriptors.specs.Parts.{are_packed}
+use Rattle.iq_descriptors.proofs.parts.are_packed.Given as goal
 
 abbrev pub invariant-loop-k : goal.invariant-loop-k
 invariant-loop-k l = are_packed (drop l.k l.more) ≡ are_packed l.more

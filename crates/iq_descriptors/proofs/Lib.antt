@@ -1,0 +1,4 @@
+pub mod SaidLemmas
+pub mod ReadLemmas
+pub mod LawLemmas
+pub mod WriteLemmas
