@@ -1,0 +1,5 @@
+pub mod CountLemmas
+pub mod StandLemmas
+pub mod PageLemmas
+pub mod CloseLemmas
+pub mod OpenLemmas
