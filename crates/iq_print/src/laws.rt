@@ -1,5 +1,5 @@
 //! That what is printed is read.
-ghost use Rattle.std.specs.Prelude.{List};
+ghost use Rattle.std.specs.Prelude.{List, ℕ};
 ghost use Rattle.iq_ast.specs.declared.statements.Statement.{Statement as TheStatement};
 ghost use Rattle.iq_tokens.specs.declared.tokens.Lexeme.{Lexeme as TheLexeme};
 ghost use Rattle.iq_grammar.specs.Statements.{IsStatementOf, Is};
@@ -22,6 +22,13 @@ pub fn printed_is_read()
 /// The grammar can spell each statement that a text of it by cases spells.
 pub fn spelled_is_spellable()
     ensures { (s : TheStatement) (text : List TheLexeme) → IsText s text → AreLexemes text → IsSpellable s }
+{}
+
+/// What is read can be printed: the grammar can spell each statement that a text is read as, and the text that is printed of it is
+/// read as that statement again. The text may be of any bytes: a value in quotes that isn't UTF-8 is no token of the grammar.
+pub fn parsed_is_spellable()
+    ensures spellable { (text : List ℕ) (s : TheStatement) → IsStatementOf text s → IsSpellable s }
+    ensures again { (text : List ℕ) (s : TheStatement) → IsStatementOf text s → IsStatementOf (statement_text s) s }
 {}
 
 /// What `parse` gives for what `print` gives: that statement, a LOAD with an empty text, if the grammar can spell it. `NoMemory`
