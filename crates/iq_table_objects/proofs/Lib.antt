@@ -1,0 +1,5 @@
+pub mod TableLemmas
+pub mod CallLemmas
+pub mod ReadLemmas
+pub mod ClosingLemmas
+pub mod OpeningLemmas
