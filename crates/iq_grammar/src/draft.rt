@@ -79,7 +79,7 @@ fn nothing() -> Name
     }
 }
 
-fn name_in(lexeme: &Lexeme) -> Option<Name>
+fn name_in(lexeme: &Lexeme<'_>) -> Option<Name>
     ensures { result ≡ spec.name_in lexeme.now }
 {
     match lexeme {
@@ -88,7 +88,7 @@ fn name_in(lexeme: &Lexeme) -> Option<Name>
     }
 }
 
-fn number_in(lexeme: &Lexeme) -> Option<i64>
+fn number_in(lexeme: &Lexeme<'_>) -> Option<i64>
     ensures { result ≡ spec.number_in lexeme.now }
 {
     match lexeme {
@@ -97,13 +97,13 @@ fn number_in(lexeme: &Lexeme) -> Option<i64>
     }
 }
 
-fn value_in(lexeme: &Lexeme) -> Option<Value>
+fn value_in(lexeme: &Lexeme<'_>) -> Option<Value>
     ensures { result ≡ spec.value_in lexeme.now }
 {
     match lexeme {
         Lexeme::Mark(_) => Some(Value::Null),
         Lexeme::Number(number) => Some(Value::Int(*number)),
-        Lexeme::Text(text) => Some(Value::Text(text.again())),
+        Lexeme::Text(text) => Some(Value::Text(text.value())),
         Lexeme::Name(_) => None,
     }
 }
@@ -352,7 +352,7 @@ impl Draft {
 
     /// Adds what the token says in its role, if it obeys the rules.
     #[tactic(auto, unfolding(crate::specs::Draft::put))]
-    pub fn put(&mut self, alloc: Global, role: Role, lexeme: &Lexeme) -> Result<bool, NoMemory>
+    pub fn put(&mut self, alloc: Global, role: Role, lexeme: &Lexeme<'_>) -> Result<bool, NoMemory>
         ensures { IfOk result (λ obeys. Puts (spec.put self.old role lexeme.now) obeys self.new) }
     {
         match role {

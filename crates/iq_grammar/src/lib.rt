@@ -11,6 +11,7 @@ mod draft;
 mod faults;
 mod grammar;
 mod reader;
+mod stack;
 mod texts;
 
 pub use directives::Directive;

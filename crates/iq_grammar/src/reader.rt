@@ -1,5 +1,5 @@
 //! The reader: one step of the grammar for each token.
-ghost use Rattle.std.specs.Prelude.{◌≡◌, ◌++◌, IfOk, map, option_map};
+ghost use Rattle.std.specs.Prelude.{◌≡◌, IfOk, map, option_map};
 ghost use Rattle.std.specs.Prelude.{ℕ, Ok, Err, length};
 ghost use Rattle.iq_tokens.specs.Tokens.{tokens_of, lexemes};
 ghost use Rattle.iq_grammar.specs.Statements.{IsFaultOf};
@@ -13,9 +13,9 @@ ghost use Rattle.iq_grammar.specs.Grammar.{Moves, the_line};
 use crate::draft::Draft;
 use crate::faults::ParseFault;
 use crate::grammar::{Line, Part, Role, Symbol, lines, may_lack};
+use crate::stack::Stack;
 use iq_tokens::{Cut, Kind, Lexeme, Token, is_same, next_token};
 use std::alloc::{AllocError, Global};
-use std::collections::LinkedList;
 
 /// The line of these that begins with the kind.
 fn beginning(kind: Kind, mut lines: &[Line]) -> Option<Line>
@@ -31,39 +31,18 @@ fn beginning(kind: Kind, mut lines: &[Line]) -> Option<Line>
 }
 
 /// Whether a token begins a directive.
-pub fn begins_directive(lexeme: &Lexeme) -> bool
+pub fn begins_directive(lexeme: &Lexeme<'_>) -> bool
     ensures { result ≡ directs lexeme.now }
 {
     beginning(lexeme.kind(), lines(Part::Directive)).is_some()
 }
 
-/// The symbols with others before them.
-fn before(
-    alloc: Global,
-    symbols: &[Symbol],
-    behind: &mut LinkedList<Symbol>,
-) -> Result<(), AllocError>
-    ensures { IfOk result (λ _. behind.new ≡ symbols.now ++ behind.old) }
-{
-    let mut all = LinkedList::new(alloc);
-    for symbol in symbols {
-        all.push_back(*symbol)?;
-    }
-    all.append(behind)?;
-    *behind = all;
-    Ok(())
-}
-
 /// The role of a token of this kind at these symbols, which become what has to follow.
 #[tactic(auto, unfolding(crate::specs::Grammar::after))]
-fn step(
-    alloc: Global,
-    symbols: &mut LinkedList<Symbol>,
-    kind: Kind,
-) -> Result<Option<Role>, AllocError>
+fn step(symbols: &mut Stack, kind: Kind) -> Result<Option<Role>, AllocError>
     ensures { IfOk result (λ role. Moves (spec.after symbols.old kind) role symbols.new) }
 {
-    'symbols: while let Some(symbol) = symbols.pop_front() {
+    'symbols: while let Some(symbol) = symbols.pop() {
         match symbol {
             Symbol::Word(expected, role) => {
                 return Ok(if is_same(kind, expected) {
@@ -74,7 +53,7 @@ fn step(
             }
             Symbol::Go(part) => match beginning(kind, lines(part)) {
                 Some(line) => {
-                    before(alloc, line.rest, symbols)?;
+                    symbols.put(line.rest)?;
                     return Ok(Some(line.role));
                 }
                 None => {
@@ -90,10 +69,10 @@ fn step(
 
 /// Whether nothing need follow.
 #[tactic(auto, unfolding(crate::specs::Grammar::can_end))]
-fn can_end(mut symbols: LinkedList<Symbol>) -> bool
+fn can_end(mut symbols: Stack) -> bool
     ensures { result ≡ spec.can_end symbols }
 {
-    'symbols: while let Some(symbol) = symbols.pop_front() {
+    'symbols: while let Some(symbol) = symbols.pop() {
         match symbol {
             Symbol::Word(_, _) => return false,
             Symbol::Go(part) => {
@@ -110,14 +89,13 @@ fn can_end(mut symbols: LinkedList<Symbol>) -> bool
 fn reading(alloc: Global, text: &[u8], whole: Part) -> Result<Draft, ParseFault>
     ensures { Gives result (run (length text.now) empty (whole_of whole) (tokens_of text.now)) }
 {
-    let mut symbols = LinkedList::new(alloc);
-    symbols.push_back(Symbol::Go(whole))?;
-    symbols.push_back(Symbol::Go(Part::End))?;
+    let mut symbols = Stack::new(alloc);
+    symbols.put(&[Symbol::Go(whole), Symbol::Go(Part::End)])?;
     let mut draft = Draft::new(alloc);
     let mut at = 0;
     'tokens: while let Some(Cut { token, end }) = next_token(text, at) {
         let Token { place, lexeme } = token;
-        let Some(role) = step(alloc, &mut symbols, lexeme.kind())? else {
+        let Some(role) = step(&mut symbols, lexeme.kind())? else {
             return Err(ParseFault::Syntax { place });
         };
         if !draft.put(alloc, role, &lexeme)? {

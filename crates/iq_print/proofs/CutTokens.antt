@@ -15,7 +15,8 @@ use Rattle.iq_tokens.specs.declared.tokens.Mark.TheVariants as mark
 use Rattle.iq_tokens.specs.declared.tokens.Lexeme.{Lexeme}
 use Rattle.iq_tokens.specs.declared.tokens.Lexeme.TheVariants as lexeme
 use Rattle.iq_tokens.specs.declared.quotes.Quoted.{Quoted}
-use Rattle.iq_tokens.specs.Tokens.{is_space, is_word_byte, reserved, front, bad, named, word_at, decimal, signed, numbered, number_at, quoted, kept, valued, text_at, pair, single, marked, symbol_at, front_of, token, cut, lexemes}
+use Rattle.iq_tokens.specs.Quotes.{quoted, kept}
+use Rattle.iq_tokens.specs.Tokens.{is_space, is_word_byte, reserved, front, bad, named, word_at, decimal, signed, numbered, number_at, valued, text_at, pair, single, marked, symbol_at, front_of, token, cut, lexemes}
 use Rattle.iq_tokens.proofs.Reserved.{no_mark}
 
 -- a token that a text is cut into, whatever its mark

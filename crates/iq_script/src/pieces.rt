@@ -35,7 +35,7 @@ pub enum Piece {
     Directive(Directive),
 }
 
-fn is_colon(lexeme: &Lexeme) -> bool
+fn is_colon(lexeme: &Lexeme<'_>) -> bool
     ensures { result ≡ spec.is_colon lexeme.now }
 {
     is_same(lexeme.kind(), Kind::Mark(Mark::Colon))

@@ -4,7 +4,8 @@ use Rattle.std.proofs.lemmas.Bool.Decides.{nat_tests}
 use Rattle.std.proofs.lemmas.Str.{is_utf8-from_IsUtf8}
 use Rattle.iq_tokens.specs.declared.tokens.Lexeme.TheVariants as lexeme
 use Rattle.iq_tokens.specs.declared.quotes.Quoted.{Quoted}
-use Rattle.iq_tokens.specs.Tokens.{quoted, kept, valued, text_at, front, front_of}
+use Rattle.iq_tokens.specs.Quotes.{quoted, kept}
+use Rattle.iq_tokens.specs.Tokens.{valued, text_at, front, front_of}
 use Rattle.iq_token_text.specs.Texts.{quoted_byte, quoted_text}
 use Rattle.iq_token_text.proofs.WordFronts.{Ends, IsFront}
 

@@ -6,7 +6,7 @@ use Rattle.std.proofs.lemmas.Str.{is_utf8-from_IsUtf8, IsUtf8-from_is_utf8}
 use Rattle.std.proofs.lemmas.Bool.Decides.{nat_tests}
 use Rattle.std.specs.Prelude.{nat_eq, nat_le}
 use Rattle.iq_tokens.specs.declared.quotes.Quoted.{Quoted}
-use Rattle.iq_tokens.specs.Tokens.{with_byte, quoted, kept, valid, is_at, bytes_at}
+use Rattle.iq_tokens.specs.Quotes.{with_byte, quoted, kept, valid, is_at, bytes_at}
 
 -- what was read so far before what comes
 abbrev pub behind : List ℕ → ℕ → Option Quoted → Option Quoted

@@ -7,22 +7,22 @@ ghost use Rattle.iq_tokens.specs.Tokens as spec;
 ghost use Rattle.iq_tokens.specs.Tokens.{Cuts};
 
 use crate::numbers::signed;
-use crate::quotes::{Quoted, read_quoted};
+use crate::quotes::{InQuotes, Quoted, read_quoted};
 use crate::tokens::{Lexeme, Mark, Token};
 use crate::words::{MOST_NAME, reserved};
 use iq_base::Name;
 
 /// A token at the front of a text, and how many bytes it takes.
 #[derive(Debug, Drop)]
-pub struct Front {
-    pub lexeme: Lexeme,
+pub struct Front<'a> {
+    pub lexeme: Lexeme<'a>,
     pub bytes: usize,
 }
 
 /// A token of a text, and the place behind it, counted from 0.
 #[derive(Debug, Drop)]
-pub struct Cut {
-    pub token: Token,
+pub struct Cut<'a> {
+    pub token: Token<'a>,
     pub end: usize,
 }
 
@@ -87,7 +87,7 @@ fn lowered(word: &[u8]) -> Option<Name>
 }
 
 /// A word of at most 30 bytes: a mark, or a name.
-fn named(name: Name) -> Lexeme
+fn named<'a>(name: Name) -> Lexeme<'a>
     ensures { result ≡ spec.named (spec.reserved name) name }
 {
     match reserved(name.as_str().as_bytes()) {
@@ -97,7 +97,7 @@ fn named(name: Name) -> Lexeme
 }
 
 #[tactic(auto, unfolding(crate::specs::Tokens::word_at))]
-fn word_at(text: &[u8]) -> Front
+fn word_at(text: &[u8]) -> Front<'_>
     ensures value { result ≡ spec.word_at text.now }
     ensures within { result.bytes ≤ length text.now }
     ensures moves { spec.is_word_byte (slice_index text.now 0) ≡ true → 0 < result.bytes }
@@ -120,7 +120,7 @@ fn is_word_at(text: &[u8], at: usize) -> bool
     false
 }
 
-fn bad(text: &[u8]) -> Front
+fn bad(text: &[u8]) -> Front<'_>
     ensures { result ≡ spec.bad text.now }
 {
     Front {
@@ -131,7 +131,7 @@ fn bad(text: &[u8]) -> Front
 
 /// The number of a text, behind its sign of so many bytes.
 #[tactic(auto, unfolding(crate::specs::Tokens::number_at))]
-fn number_at(text: &[u8], negative: bool, sign: usize, digits: &[u8]) -> Front
+fn number_at<'a>(text: &'a [u8], negative: bool, sign: usize, digits: &[u8]) -> Front<'a>
     requires { sign + length digits.now ≡ length text.now }
     ensures value { result ≡ spec.number_at text.now negative sign digits.now }
     ensures within { result.bytes ≤ length text.now }
@@ -152,15 +152,15 @@ fn number_at(text: &[u8], negative: bool, sign: usize, digits: &[u8]) -> Front
 
 /// The text in quotes that a text begins with, behind its first quote.
 #[tactic(auto, unfolding(crate::specs::Tokens::text_at))]
-fn text_at(text: &[u8], rest: &[u8]) -> Front
+fn text_at<'a>(text: &'a [u8], rest: &'a [u8]) -> Front<'a>
     requires { 1 + length rest.now ≡ length text.now }
     ensures value { result ≡ spec.text_at text.now rest.now }
     ensures within { result.bytes ≤ length text.now }
     ensures moves { 0 < result.bytes }
 {
     match read_quoted(rest) {
-        Some(Quoted { value, bytes }) => Front {
-            lexeme: Lexeme::Text(value),
+        Some(Quoted { value: _, bytes }) => Front {
+            lexeme: Lexeme::Text(InQuotes { behind: rest }),
             bytes: 1 + bytes,
         },
         None => bad(text),
@@ -204,7 +204,7 @@ fn single(first: u8) -> Option<Mark>
 
 /// The symbol by the first byte of a text and the one behind it, or 0.
 #[tactic(auto, unfolding(crate::specs::Tokens::symbol_at))]
-fn symbol_at(text: &[u8], first: u8, second: u8) -> Front
+fn symbol_at(text: &[u8], first: u8, second: u8) -> Front<'_>
     requires some { 0 < length text.now }
     requires second { 0 < second → 1 < length text.now }
     ensures value { result ≡ spec.symbol_at text.now first second }
@@ -227,7 +227,7 @@ fn symbol_at(text: &[u8], first: u8, second: u8) -> Front
 }
 
 #[tactic(auto, unfolding(crate::specs::Tokens::front_of))]
-fn first_token(text: &[u8]) -> Front
+fn first_token(text: &[u8]) -> Front<'_>
     requires { 0 < length text.now }
     ensures value { result ≡ spec.front_of text.now }
     ensures within { result.bytes ≤ length text.now }
@@ -255,7 +255,7 @@ fn first_token(text: &[u8]) -> Front
 /// spaces and tabs are left. It is the longest that stands there. Bytes that begin no token are one, `Mark::Bad`, with all
 /// that is behind them: a number past 64 bits, digits with a word directly behind them, a text without end or of more than 255
 /// bytes, and any byte that is no symbol.
-pub fn next_token(text: &[u8], from: usize) -> Option<Cut>
+pub fn next_token(text: &[u8], from: usize) -> Option<Cut<'_>>
     ensures { Cuts text.now from result }
 {
     let mut at = from;

@@ -13,5 +13,6 @@ mod tokens;
 mod words;
 
 pub use lexer::{Cut, is_space, next_token};
+pub use quotes::InQuotes;
 pub use tokens::{Kind, Lexeme, Mark, Token, is_same};
 pub use words::is_name;

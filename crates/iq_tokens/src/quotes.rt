@@ -1,15 +1,53 @@
 //! Texts in quotes.
 ghost use Rattle.std.specs.Prelude.{◌≡◌, ◌<◌, ◌≤◌, length, IfSome};
-ghost use Rattle.iq_tokens.specs.Tokens as spec;
+ghost use Rattle.iq_tokens.specs.Quotes as spec;
 
 use arrayvec::ArrayVec;
 use iq_base::Text;
+use std::fmt;
+use std::marker::Model;
 
 /// The value of a text in quotes, and how many bytes it took with its closing quote.
 #[derive(Debug, Drop)]
 pub struct Quoted {
     pub value: Text,
     pub bytes: usize,
+}
+
+/// A text in quotes as it lies in a text of tokens: what stands behind its first quote. Contracts see its value, which is read anew where
+/// it is wanted, so that a token is no larger than a name.
+#[derive(Drop)]
+pub struct InQuotes<'a> {
+    pub(crate) behind: &'a [u8],
+}
+
+impl<'a> Model for InQuotes<'a> {
+    ghost use Rattle.std.specs.Prelude.{◌≡◌, List, ℕ, true, is_some};
+    ghost use Rattle.iq_tokens.specs.Quotes.{quoted, kept, value_of};
+
+    ghost Value = { List ℕ };
+
+    ghost view = { λ q. value_of (kept (quoted q.behind.now)) };
+
+    ghost invariant = { λ q. is_some (kept (quoted q.behind.now)) ≡ true };
+}
+
+impl<'a> InQuotes<'a> {
+    /// The value of the text.
+    pub fn value(&self) -> Text
+        ensures { result ≡ self.now }
+    {
+        match read_quoted(self.behind) {
+            Some(quoted) => quoted.value,
+            None => unreachable!(),
+        }
+    }
+}
+
+impl<'a> fmt::Debug for InQuotes<'a> {
+    fn fmt<W: fmt::Write>(&self, f: &mut fmt::Formatter<W>) -> fmt::Result {
+        fmt::Debug::fmt(&self.value(), f)
+    }
 }
 
 /// The value of these bytes, if they are UTF-8.

@@ -2,7 +2,8 @@
 ghost use Rattle.std.specs.Prelude.{◌≡◌};
 ghost use Rattle.iq_tokens.specs.Kinds as spec;
 
-use iq_base::{Name, Text};
+use crate::quotes::InQuotes;
+use iq_base::Name;
 
 /// The reserved words that the grammar uses, and its symbols. `Other` is any other word that is no name, and `Bad` are bytes that
 /// begin no token.
@@ -102,21 +103,21 @@ pub enum Kind {
 
 /// A token without its place: a mark, a name in lower case, a number of 64 bits with a sign, or the value of a text in quotes.
 #[derive(Debug, Drop)]
-pub enum Lexeme {
+pub enum Lexeme<'a> {
     Mark(Mark),
     Name(Name),
     Number(i64),
-    Text(Text),
+    Text(InQuotes<'a>),
 }
 
 /// A token and its place: the number of its first byte in the text, from 1.
 #[derive(Debug, Drop)]
-pub struct Token {
+pub struct Token<'a> {
     pub place: usize,
-    pub lexeme: Lexeme,
+    pub lexeme: Lexeme<'a>,
 }
 
-impl Lexeme {
+impl<'a> Lexeme<'a> {
     /// The kind of the token.
     pub fn kind(&self) -> Kind
         ensures { result ≡ spec.kind_of self.now }

@@ -1,6 +1,6 @@
 use Rattle.std.proofs.Common.{◌≡◌, ℕ, ◌+◌, ◌≤◌, List, ◌∙◌, sym, ap, subst, length}
 use Rattle.std.proofs.lemmas.Bool.{eqb-true}
-use Rattle.iq_tokens.specs.Tokens.{valid}
+use Rattle.iq_tokens.specs.Quotes.{valid}
 use Rattle.iq_tokens.proofs.Quoting.{turn_byte, turn_full, turn_close, turn_open}
 use Rattle.iq_tokens.proofs.quotes.read_quoted.Goals as goal
 

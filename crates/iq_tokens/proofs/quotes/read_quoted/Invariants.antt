@@ -1,5 +1,5 @@
 use Rattle.std.proofs.Common.{◌≡◌, ◌-◌, ◌≤◌, length, drop}
-use Rattle.iq_tokens.specs.Tokens.{quoted}
+use Rattle.iq_tokens.specs.Quotes.{quoted}
 use Rattle.iq_tokens.proofs.Quoting.{behind}
 use Rattle.iq_tokens.proofs.quotes.read_quoted.Given as goal
 
