@@ -12,7 +12,7 @@ fn times(alloc: Global, text: &str, count: u32) -> Result<String, AllocError> {
 }
 
 /// A front, a text so many times, an end, and what is told of the script.
-const REPEATED: [(&str, &str, u32, &str, &str); 14] = [
+const REPEATED: [(&str, &str, u32, &str, &str); 15] = [
     ("-- one\n\n", "SELECT x FROM t\n", 100_000, "\n--", "read"),
     (
         "-- one\n\n",
@@ -59,6 +59,7 @@ const REPEATED: [(&str, &str, u32, &str, &str); 14] = [
         "",
         "1 Syntax 100024",
     ),
+    ("INSERT INTO t VALUES (", ",", 1_000_000, "", "1 Syntax 23"),
     ("SELECT x FROM t WHERE ", "(", 1_000_000, "", "1 Syntax 87"),
     (
         "SELECT x FROM t WHERE ",
